@@ -22,7 +22,8 @@ two_digits x y p q = record {
 four_digits : (x y z w : ℕ) → IsDigit x → IsDigit y → IsDigit z → IsDigit w → AreDigits 4 (x ∷ y ∷ z ∷ w ∷ [])
 four_digits x y z w p q r s = record {
   count = refl;
-  digits = All-cons IsDigit x (y ∷ z ∷ w ∷ []) p (All-cons IsDigit y (z ∷ w ∷ []) q (All-cons IsDigit z (w ∷ []) r (All-cons IsDigit w [] s (All-nil IsDigit))));
+  digits = All-cons IsDigit x (y ∷ z ∷ w ∷ []) p (All-cons IsDigit y (z ∷ w ∷ []) q
+      (All-cons IsDigit z (w ∷ []) r (All-cons IsDigit w [] s (All-nil IsDigit))));
 }
 
 listed : (a b c d e f g h k l : ℕ) → FitsAll (a ∷ b ∷ c ∷ d ∷ e ∷ f ∷ g ∷ h ∷ k ∷ l ∷ []) → IsDate (a ∷ b ∷ c ∷ d ∷ e ∷ f ∷ g ∷ h ∷ k ∷ l ∷ [])
@@ -34,7 +35,10 @@ listed a b c d e f g h k l fits =
       month = f ∷ g ∷ [];
       day = k ∷ l ∷ [];
       whole = rw (dot, second_dot) refl;
-      year_digits = four_digits a b c d ((fits 0 (omega arith)).2 (omega arith) (omega arith)) ((fits 1 (omega arith)).2 (omega arith) (omega arith)) ((fits 2 (omega arith)).2 (omega arith) (omega arith)) ((fits 3 (omega arith)).2 (omega arith) (omega arith));
+      year_digits = four_digits a b c d ((fits 0 (omega arith)).2 (omega arith) (omega arith))
+          ((fits 1 (omega arith)).2 (omega arith) (omega arith))
+          ((fits 2 (omega arith)).2 (omega arith) (omega arith))
+          ((fits 3 (omega arith)).2 (omega arith) (omega arith));
       month_digits = two_digits f g ((fits 5 (omega arith)).2 (omega arith) (omega arith)) ((fits 6 (omega arith)).2 (omega arith) (omega arith));
       day_digits = two_digits k l ((fits 8 (omega arith)).2 (omega arith) (omega arith)) ((fits 9 (omega arith)).2 (omega arith) (omega arith));
     }
@@ -54,7 +58,8 @@ four_items _ h = absurd (omega arith)
 digit : (i byte : ℕ) → i ≢ 4 → i ≢ 7 → IsDigit byte → FitsDate i byte
 digit i byte p q h = (λ e. absurd (p e), λ e. absurd (q e), λ r s. h)
 
-placed : (a b c d f g k l : ℕ) → IsDigit a → IsDigit b → IsDigit c → IsDigit d → IsDigit f → IsDigit g → IsDigit k → IsDigit l → FitsAll (a ∷ b ∷ c ∷ d ∷ 0x2E ∷ f ∷ g ∷ 0x2E ∷ k ∷ l ∷ [])
+placed : (a b c d f g k l : ℕ) → IsDigit a → IsDigit b → IsDigit c → IsDigit d → IsDigit f → IsDigit g → IsDigit k
+    → IsDigit l → FitsAll (a ∷ b ∷ c ∷ d ∷ 0x2E ∷ f ∷ g ∷ 0x2E ∷ k ∷ l ∷ [])
 placed a b c d f g k l pa pb pc pd pf pg pk pl zero below = digit 0 a (omega arith) (omega arith) pa
 placed a b c d f g k l pa pb pc pd pf pg pk pl (suc zero) below = digit 1 b (omega arith) (omega arith) pb
 placed a b c d f g k l pa pb pc pd pf pg pk pl (suc (suc zero)) below = digit 2 c (omega arith) (omega arith) pc
@@ -64,7 +69,8 @@ placed a b c d f g k l pa pb pc pd pf pg pk pl (suc (suc (suc (suc (suc zero))))
 placed a b c d f g k l pa pb pc pd pf pg pk pl (suc (suc (suc (suc (suc (suc zero)))))) below = digit 6 g (omega arith) (omega arith) pg
 placed a b c d f g k l pa pb pc pd pf pg pk pl (suc (suc (suc (suc (suc (suc (suc zero))))))) below = (λ e. refl, λ e. refl, λ r s. absurd (s refl))
 placed a b c d f g k l pa pb pc pd pf pg pk pl (suc (suc (suc (suc (suc (suc (suc (suc zero)))))))) below = digit 8 k (omega arith) (omega arith) pk
-placed a b c d f g k l pa pb pc pd pf pg pk pl (suc (suc (suc (suc (suc (suc (suc (suc (suc zero))))))))) below = digit 9 l (omega arith) (omega arith) pl
+placed a b c d f g k l pa pb pc pd pf pg pk pl (suc (suc (suc (suc (suc (suc (suc (suc (suc zero))))))))) below =
+    digit 9 l (omega arith) (omega arith) pl
 placed a b c d f g k l pa pb pc pd pf pg pk pl (suc (suc (suc (suc (suc (suc (suc (suc (suc (suc i)))))))))) below = absurd (omega arith)
 
 at : (xs ys : List ℕ) (i : ℕ) → xs ≡ ys → i < length ys → All IsDigit xs → IsDigit (get_or ys i 0)
@@ -85,7 +91,10 @@ places_from_date text ok =
     ∙ ap (λ xs. year ++ codes "." ++ month ++ codes "." ++ xs) d.2 in
     let fits =
     placed y.0 y.1 y.2 y.3 m.0 m.1 d.0 d.1
-    (at ok.year year 0 y.4 (omega arith) ok.year_digits.digits) (at ok.year year 1 y.4 (omega arith) ok.year_digits.digits) (at ok.year year 2 y.4 (omega arith) ok.year_digits.digits) (at ok.year year 3 y.4 (omega arith) ok.year_digits.digits)
+    (at ok.year year 0 y.4 (omega arith) ok.year_digits.digits)
+    (at ok.year year 1 y.4 (omega arith) ok.year_digits.digits)
+    (at ok.year year 2 y.4 (omega arith) ok.year_digits.digits)
+    (at ok.year year 3 y.4 (omega arith) ok.year_digits.digits)
     (at ok.month month 0 m.2 (omega arith) ok.month_digits.digits) (at ok.month month 1 m.2 (omega arith) ok.month_digits.digits)
     (at ok.day day 0 d.2 (omega arith) ok.day_digits.digits) (at ok.day day 1 d.2 (omega arith) ok.day_digits.digits) in
     (ap length whole, subst FitsAll (sym whole) fits)

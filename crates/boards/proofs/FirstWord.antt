@@ -1,5 +1,6 @@
 -- The first word of a text.
-use Rattle.std.proofs.Common.{◌≡◌, ℕ, ◌+◌, Bool, true, false, cond, List, [], ◌∷◌, None, Some, take, drop, length, position, refl, subst, arith, nat_lt}
+use Rattle.std.proofs.Common.{◌≡◌, ℕ, ◌+◌, Bool, true, false, cond, List, [], ◌∷◌, None, Some, take, drop, length}
+use Rattle.std.proofs.Common.{position, refl, subst, arith, nat_lt}
 use Rattle.std.specs.List.{slice_split, position_or_len}
 use Rattle.std.proofs.lemmas.Bool.{ltb-true, ltb-false}
 use Rattle.std.proofs.lemmas.Grind.{common_steps}
@@ -20,7 +21,8 @@ first_part p xs i found = by_test (nat_lt (position_or_len p xs) (length xs)) re
 pub one_part : (p : ℕ → Bool) (xs : List ℕ) → position p xs ≡ None → slice_split p xs ≡ xs ∷ []
 one_part p xs none = by_test (nat_lt (position_or_len p xs) (length xs)) refl none
   where
-    by_test : (b : Bool) → nat_lt (position_or_len p xs) (length xs) ≡ b → cond b (Some (position_or_len p xs)) None ≡ None → slice_split p xs ≡ xs ∷ []
+    by_test : (b : Bool) → nat_lt (position_or_len p xs) (length xs) ≡ b
+        → cond b (Some (position_or_len p xs)) None ≡ None → slice_split p xs ≡ xs ∷ []
     by_test true e none = absurd cc
     by_test false e none =
         let past = ltb-false (position_or_len p xs) (length xs) e in

@@ -36,4 +36,5 @@ pub suit_letters-ascii : (hand : List Bool) (suit : Suit) → All (λ byte. byte
 unfolding suit_letters
 suit_letters-ascii hand suit =
     All-map Low (slice_index letters) (filter (has_rank hand suit) (range_with_len 0 13))
-    (All-from_get_or (λ n. Low (slice_index letters n)) (filter (has_rank hand suit) (range_with_len 0 13)) 0 (λ i h. letter_low (get_or (filter (has_rank hand suit) (range_with_len 0 13)) i 0)))
+    (All-from_get_or (λ n. Low (slice_index letters n)) (filter (has_rank hand suit) (range_with_len 0 13)) 0
+    (λ i h. letter_low (get_or (filter (has_rank hand suit) (range_with_len 0 13)) i 0)))

@@ -7,3 +7,6 @@ pub mod FirstWord
 pub mod TricksTold
 pub mod TricksForms
 pub mod TricksShort
+pub mod Rooms
+pub mod Tested
+pub mod OfLabels

@@ -46,7 +46,8 @@ dealers_hand setting number candidate deal rotates =
     ap (hand_of (board_in setting number candidate deal).deal) (sym (north_goes (dealer_in setting number)))
     ∙ hands setting number candidate deal North rotates
 
-pub partition : (setting : Setting) (number candidate : ℕ) (deal : List Seat) → IsPartition deal → IsPartition (board_in setting number candidate deal).deal
+pub partition : (setting : Setting) (number candidate : ℕ) (deal : List Seat) → IsPartition deal
+    → IsPartition (board_in setting number candidate deal).deal
 unfolding board_in
 partition setting number candidate deal ok = go setting.rotate
   where

@@ -21,7 +21,8 @@ too_many : (a b p c : List ℕ) (more : List (List ℕ)) → 0 < length more →
 too_many a b p c [] h = absurd (omega arith)
 too_many a b p c (d ∷ more) h = refl
 
-pub five_words : (a b p c : List ℕ) (after : Option (Bor (List ℕ))) → is_some after ≡ true → None ≡ told_by (a ∷ b ∷ p ∷ c ∷ words_behind (option_map (λ s. s.now) after))
+pub five_words : (a b p c : List ℕ) (after : Option (Bor (List ℕ))) → is_some after ≡ true
+    → None ≡ told_by (a ∷ b ∷ p ∷ c ∷ words_behind (option_map (λ s. s.now) after))
 five_words a b p c None h = absurd cc
 five_words a b p c (Some s) h =
     let some = length-slice_split (λ b. b == 32) s.now in too_many a b p c (words_of s.now) (omega (arith, some))

@@ -1,12 +1,14 @@
 -- A line that tells of tricks is short.
-use Rattle.std.proofs.Common.{◌≡◌, ◌≤◌, ℕ, ◌+◌, ◌&&◌, ◌==◌, ◌∙◌, Bool, true, false, List, [], ◌∷◌, length, None, Some, refl, ap, subst, arith, bytes_eq, codes, eqb-true}
+use Rattle.std.proofs.Common.{◌≡◌, ◌≤◌, ℕ, ◌+◌, ◌&&◌, ◌==◌, ◌∙◌, Bool, true, false, List, [], ◌∷◌, length, None, Some}
+use Rattle.std.proofs.Common.{refl, ap, subst, arith, bytes_eq, codes, eqb-true}
 use Rattle.std.specs.List.{list_all, join_with_byte}
 use Rattle.std.specs.Int.{is_in_range}
 use Rattle.std.proofs.lemmas.Bool.{and_parts}
 use Rattle.std.proofs.lemmas.Grind.{common_steps}
 use Rattle.std.proofs.lemmas.List.Splits.{join_with_byte-slice_split}
 use Rattle.std.proofs.lemmas.Slice.Eq.{bytes_eq-Decides}
-use Rattle.boards.specs.TricksLines.{TricksView, are_points, are_tricks, are_with_par, is_contract, is_contract_byte, is_side, is_tricks, told, told_by, words_of}
+use Rattle.boards.specs.TricksLines.{TricksView, are_points, are_tricks, are_with_par, is_contract, is_contract_byte}
+use Rattle.boards.specs.TricksLines.{is_side, is_tricks, told, told_by, words_of}
 use Rattle.boards.proofs.TricksTold.{points_length, side_length}
 
 abbrev joined : List (List ℕ) → List ℕ

@@ -1,5 +1,6 @@
 -- What holds of all that a line tells.
-use Rattle.std.proofs.Common.{◌≡◌, ◌≤◌, ℕ, ◌&&◌, ◌==◌, ◌∙◌, true, List, [], ◌∷◌, ◌++◌, length, map, refl, ap, inl, inr, All, arith, bytes_eq, codes, eqb-true, length-append}
+use Rattle.std.proofs.Common.{◌≡◌, ◌≤◌, ℕ, ◌&&◌, ◌==◌, ◌∙◌, true, List, [], ◌∷◌, ◌++◌, length, map, refl, ap, inl}
+use Rattle.std.proofs.Common.{inr, All, arith, bytes_eq, codes, eqb-true, length-append}
 use Rattle.std.proofs.lemmas.Bool.{and_parts}
 use Rattle.std.proofs.Common.{zero, suc, drop, length-drop, take}
 use Rattle.std.specs.Prelude.{nat_lt, slice_index}
@@ -10,7 +11,8 @@ use Rattle.std.specs.Char.{is_ascii_digit, to_ascii_lowercase}
 use Rattle.std.specs.List.{list_all}
 use Rattle.std.specs.Int.{is_in_range}
 use Rattle.std.proofs.lemmas.Grind.{common_steps}
-use Rattle.boards.specs.TricksLines.{IsSmallDigit, IsTold, are_points, are_tricks, are_with_par, is_contract, is_contract_byte, is_side, is_tricks, known}
+use Rattle.boards.specs.TricksLines.{IsSmallDigit, IsTold, are_points, are_tricks, are_with_par, is_contract}
+use Rattle.boards.specs.TricksLines.{is_contract_byte, is_side, is_tricks, known}
 use Rattle.boards.specs.TricksTags.{is_score}
 use Rattle.boards.specs.internal.TricksWords.{IsScored}
 
@@ -56,7 +58,8 @@ alone_told tricks h =
     }
 
 -- and with par
-pub par_told : (tricks side points contract : List ℕ) → are_with_par tricks side points ≡ true → length contract ≤ 24 → IsTold (known tricks (side ++ (32 ∷ points)) contract)
+pub par_told : (tricks side points contract : List ℕ) → are_with_par tricks side points ≡ true → length contract ≤ 24
+    → IsTold (known tricks (side ++ (32 ∷ points)) contract)
 par_told tricks side points contract h few =
     let parts = and_parts (are_tricks tricks) (is_side side && are_points points) h in
     let par = and_parts (is_side side) (are_points points) parts.1 in
@@ -78,7 +81,8 @@ par_told tricks side points contract h few =
 pub scored_told : (tricks score contract : List ℕ) → are_tricks tricks ≡ true → IsScored score contract → IsTold (known tricks score contract)
 scored_told tricks score contract h par =
     let alone = alone_told tricks h in
-    let twenty : length (map to_ascii_lowercase tricks) ≡ 20 = length-map _ _ ∙ eqb-true (length tricks) 20 (and_parts (length tricks == 20) (list_all is_tricks tricks) h).0 in record {
+    let twenty : length (map to_ascii_lowercase tricks) ≡ 20 = length-map _ _
+    ∙ eqb-true (length tricks) 20 (and_parts (length tricks == 20) (list_all is_tricks tricks) h).0 in record {
       digits = alone.digits;
       are_small = alone.are_small;
       score = par.short;

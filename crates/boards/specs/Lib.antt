@@ -8,4 +8,6 @@ pub mod Formats
 pub mod Show
 pub mod TricksLines
 pub mod TricksTags
+pub mod Captions
+pub mod Room
 pub mod internal

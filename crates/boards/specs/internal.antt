@@ -2,3 +2,4 @@
 pub mod LabelBytes
 pub mod Sets
 pub mod TricksWords
+pub mod Kept

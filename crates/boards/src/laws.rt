@@ -1,8 +1,11 @@
-//! Laws of settings: functions that do nothing, whose contracts are the laws.
+//! Laws of settings and captions: functions that do nothing, whose contracts are the laws.
 
 ghost use Rattle.std.specs.Prelude.{◌≡◌, ℕ, List, true};
+ghost use Rattle.boards.specs.Captions.{AreLabels, captions_in};
+ghost use Rattle.boards.specs.Headings.{HeadingView};
 ghost use Rattle.boards.specs.Law2.{board_by_law};
 ghost use Rattle.boards.specs.Settings.{board_in, by_law, dealer_in};
+ghost use Rattle.boards.specs.declared.format.Format.{Format as AFormat};
 ghost use Rattle.boards.specs.declared.setting.Setting.{Setting};
 ghost use Rattle.cards.specs.Deals.{IsPartition};
 ghost use Rattle.cards.specs.Hands.{hand_of};
@@ -33,4 +36,11 @@ pub fn rotating_keeps_hands()
 pub fn boards_deal_partitions()
     ensures { (setting : Setting) (number candidate : ℕ) (deal : List Seat)
         → IsPartition deal → IsPartition (board_in setting number candidate deal).deal }
+{}
+
+/// Every format writes labels as they are.
+#[tactic(auto, using(crate::proofs::Tested::labels_stay))]
+pub fn every_format_has_labels()
+    ensures { (format : AFormat) (given : HeadingView)
+        → AreLabels given → captions_in format given ≡ given }
 {}

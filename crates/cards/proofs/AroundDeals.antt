@@ -1,5 +1,7 @@
 -- The deal around fixed cards: a partition, with the masks of what is fixed and what is dealt.
-use Rattle.std.proofs.Common.{◌≡◌, ℕ, zero, suc, ◌+◌, ◌-◌, ◌^◌, ◌<◌, ◌≤◌, ◌≢◌, ◌==◌, ◌&&◌, max, Bool, true, false, cond, List, [], ◌∷◌, length, take, get_or, map, refl, sym, ap, ◌∙◌, arith, subst, inl, inr}
+use Rattle.std.proofs.Common.{◌≡◌, ℕ, zero, suc, ◌+◌, ◌-◌, ◌^◌, ◌<◌, ◌≤◌, ◌==◌, ◌&&◌, max, Bool, true, false}
+use Rattle.std.proofs.Common.{cond, List, [], ◌∷◌, length, take, get_or, map, refl, sym, ap, ◌∙◌, arith, inl}
+use Rattle.std.proofs.Common.{inr}
 use Rattle.std.specs.Prelude.{Option, Some, None, nat_le, ltb, unwrap_or, if◌then◌else◌}
 use Rattle.std.specs.List.{count_by}
 use Rattle.std.proofs.lemmas.Bool.{cases_lt}
@@ -11,7 +13,7 @@ use Rattle.std.proofs.lemmas.Nat.Bits.{bit_at_or}
 use Rattle.std.proofs.lemmas.Simd.{bit_mask_l, mask_l-lt}
 use lib.Lanes.{mask_l}
 use Rattle.std.specs.Int.{bit_at}
-use Rattle.std.specs.Int.Bits.{bit_or, or_zero_r}
+use Rattle.std.specs.Int.Bits.{bit_or}
 use Rattle.std.proofs.lemmas.List.Sums.{sum_by-cons, count_by-le-length, count_by_more_no, count_by_more_yes}
 use Rattle.std.proofs.lemmas.List.Sorted.{sum_by-IsPermutation}
 use Rattle.cards.specs.declared.seat.Seat.{Seat}
@@ -20,38 +22,45 @@ use Rattle.cards.specs.Pack.{seat_number}
 use Rattle.cards.specs.Shuffle.{card_at, pack}
 use Rattle.cards.specs.Deals.{IsPartition, position_of}
 use Rattle.cards.specs.Fixed.{IsFixed, dealt_around, free_count, free_index, held, is_fixed_at, is_free, open_seat, places_for, room, seat_around}
-use Rattle.cards.specs.declared.around.Side.{Side}
-use Rattle.cards.specs.internal.Around.{AreCards, IsDealingAround, IsKept, IsListed, IsSettled, IsSide, draws_around, fixed_at, fixed_mask, settles_within}
-use Rattle.cards.specs.internal.Dealings.{IsSouthDealt, IsWestDealt, drawn_deal}
-use Rattle.cards.specs.internal.Masks.{IsMasks, seat_mask, seats_of_masks}
+use Rattle.cards.specs.internal.Around.{fixed_at, fixed_mask, settles_within}
+use Rattle.cards.specs.internal.Masks.{seat_mask}
 use Rattle.cards.specs.internal.MaskBits.{bit_at_pack, mask-pack-lt, same_masks}
 use Rattle.cards.proofs.DealMasks.{bit_at_seat, seat_mask-lt}
-use Rattle.cards.proofs.FullMasks.{rest_to_east, rest_to_north}
-use Rattle.cards.specs.internal.PackedMasks.{rest_of}
-use Rattle.lcg48.specs.Sequence.{state_after}
 use Rattle.cards.proofs.Dealing.{position_of-card_at}
 use Rattle.cards.proofs.Partitions.{positions_whole}
 use Rattle.cards.proofs.FewPlaces.{are_places, is_less, isn't_less, position_above, position_below}
-use Rattle.cards.proofs.FreeCards.{dealing_around_at, dealing_around_first, index_more, index_rises, no_mask}
+use Rattle.cards.proofs.FreeCards.{index_more, index_rises}
 use Rattle.cards.proofs.Totals.{total, total_of_map, total_more, total_cut, total_same, total_of_interval}
 
 -- each card is fixed at one seat, or free
-pub all_held : (xs : List (Option Seat)) → count_by (is_fixed_at North) xs + count_by (is_fixed_at East) xs + count_by (is_fixed_at South) xs + count_by (is_fixed_at West) xs + count_by is_free xs ≡ length xs
+pub all_held : (xs : List (Option Seat)) → count_by (is_fixed_at North) xs + count_by (is_fixed_at East) xs + count_by
+    (is_fixed_at South) xs + count_by (is_fixed_at West) xs + count_by is_free xs ≡ length xs
 all_held [] = refl
 all_held (o ∷ xs) =
-    omega (arith, all_held xs, counted_cons (is_fixed_at North) o xs, counted_cons (is_fixed_at East) o xs, counted_cons (is_fixed_at South) o xs, counted_cons (is_fixed_at West) o xs, counted_cons is_free o xs, one_of o)
+    omega (
+      arith,
+      all_held xs,
+      counted_cons (is_fixed_at North) o xs,
+      counted_cons (is_fixed_at East) o xs,
+      counted_cons (is_fixed_at South) o xs,
+      counted_cons (is_fixed_at West) o xs,
+      counted_cons is_free o xs,
+      one_of o,
+    )
   where
     counted_cons : (p : Option Seat → Bool) (o : Option Seat) (xs : List (Option Seat)) → count_by p (o ∷ xs) ≡ cond (p o) 1 0 + count_by p xs
     counted_cons p o xs = sum_by-cons (λ x. cond (p x) 1 0) o xs
 
-    one_of : (o : Option Seat) → cond (is_fixed_at North o) 1 0 + cond (is_fixed_at East o) 1 0 + cond (is_fixed_at South o) 1 0 + cond (is_fixed_at West o) 1 0 + cond (is_free o) 1 0 ≡ 1
+    one_of : (o : Option Seat) → cond (is_fixed_at North o) 1 0 + cond (is_fixed_at East o) 1 0 + cond
+        (is_fixed_at South o) 1 0 + cond (is_fixed_at West o) 1 0 + cond (is_free o) 1 0 ≡ 1
     one_of None = refl
     one_of (Some North) = refl
     one_of (Some East) = refl
     one_of (Some South) = refl
     one_of (Some West) = refl
 
-pub rooms_together : (fixed : List (Option Seat)) → IsFixed fixed → free_count fixed ≡ room fixed North + room fixed East + room fixed South + room fixed West
+pub rooms_together : (fixed : List (Option Seat)) → IsFixed fixed
+    → free_count fixed ≡ room fixed North + room fixed East + room fixed South + room fixed West
 rooms_together fixed ok = omega (arith, all_held fixed, ok.count, ok.room North, ok.room East, ok.room South, ok.room West)
 
 -- the first position of a seat's free cards
@@ -86,7 +95,8 @@ within_before low high p h = grind (arith, nat_tests)
 within_after : (low high p : ℕ) → high ≤ p → (nat_le low p && ltb p high) ≡ false
 within_after low high p h = grind (arith, nat_tests)
 
-chain_within : (a b c d p : ℕ) (low : Seat → ℕ) (size : Seat → ℕ) → low North ≡ 0 → low East ≡ a → low South ≡ a + b → low West ≡ a + b + c → size North ≡ a → size East ≡ b → size South ≡ c → size West ≡ d
+chain_within : (a b c d p : ℕ) (low : Seat → ℕ) (size : Seat → ℕ) → low North ≡ 0 → low East ≡ a → low South ≡ a + b
+    → low West ≡ a + b + c → size North ≡ a → size East ≡ b → size South ≡ c → size West ≡ d
     → p < a + b + c + d → (q : Seat) → (nat_le (low q) p && ltb p (low q + size q)) ≡ (seat_number (chain a b c p) == seat_number q)
 chain_within a b c d p low size ln le ls lw sn se ss sw inside =
     elim (cases_lt p a) [
@@ -128,7 +138,8 @@ chain_within a b c d p low size ln le ls lw sn se ss sw inside =
 pub seat_at_open : (fixed : List (Option Seat)) (p : ℕ) → IsFixed fixed → p < free_count fixed → (q : Seat)
     → (nat_le (first_of fixed q) p && ltb p (first_of fixed q + room fixed q)) ≡ (seat_number (open_seat fixed p) == seat_number q)
 seat_at_open fixed p ok inside q =
-    chain_within (room fixed North) (room fixed East) (room fixed South) (room fixed West) p (first_of fixed) (room fixed) refl refl refl refl refl refl refl refl
+    chain_within (room fixed North) (room fixed East) (room fixed South) (room fixed West) p (first_of fixed)
+    (room fixed) refl refl refl refl refl refl refl refl
     (omega (arith, inside, rooms_together fixed ok)) q
 
 -- 1 if the seat is q
@@ -163,10 +174,12 @@ positions_of_free fixed x h ok =
     sym (total_of_map (λ c. k (position_of places c)) (card_at places) 52)
     ∙ sum_by-IsPermutation (λ c. k (position_of places c)) pack (map (card_at places) pack) (positions_whole places (are_places m x))
     ∙ total_of_map (λ c. k (position_of places c)) (λ i. i) 52 in
-    let back : total (λ i. k (position_of places (card_at places i))) 52 ≡ total k 52 = total_same _ k 52 (λ i inside. ap k (position_of-card_at places i inside)) in
+    let back : total (λ i. k (position_of places (card_at places i))) 52 ≡ total k 52 =
+    total_same _ k 52 (λ i inside. ap k (position_of-card_at places i inside)) in
     sym (total_cut (λ i. k (position_of places i)) (λ i. h (position_of places i)) m 52 few
     (λ i inside. ap (λ b. cond b (h (position_of places i)) 0) (is_less (position_of places i) m (position_below m x i few inside)))
-    (λ i above inside. ap (λ b. cond b (h (position_of places i)) 0) (isn't_less (position_of places i) m (omega (arith, position_above m x i few above inside)))))
+    (λ i above inside. ap (λ b. cond b (h (position_of places i)) 0)
+    (isn't_less (position_of places i) m (omega (arith, position_above m x i few above inside)))))
     ∙ sym moved ∙ back
     ∙ total_cut k h m 52 few
     (λ i inside. ap (λ b. cond b (h i) 0) (is_less i m inside))
@@ -174,7 +187,8 @@ positions_of_free fixed x h ok =
 
 -- the first n cards of a seat: those that are fixed there, and those of the free ones' positions
 first_cards : (fixed : List (Option Seat)) (places : List ℕ) (q : Seat) (n : ℕ) → n ≤ length fixed
-    → total (λ c. one_if q (seat_around fixed places c)) n ≡ count_by (is_fixed_at q) (take n fixed) + total (λ i. one_if q (open_seat fixed (position_of places i))) (free_index fixed n)
+    → total (λ c. one_if q (seat_around fixed places c)) n ≡ count_by (is_fixed_at q) (take n fixed) + total
+    (λ i. one_if q (open_seat fixed (position_of places i))) (free_index fixed n)
 unfolding total
 first_cards fixed places q zero inside = refl
 first_cards fixed places q (suc n) inside = go (first_cards fixed places q n (omega arith)) (fixed_at fixed n) refl
@@ -188,18 +202,33 @@ first_cards fixed places q (suc n) inside = go (first_cards fixed places q n (om
     e : suc n ≡ n + 1
     e = omega arith
 
-    go : total t n ≡ count_by (is_fixed_at q) (take n fixed) + total g (free_index fixed n) → (o : Option Seat) → fixed_at fixed n ≡ o → total t n + t n ≡ count_by (is_fixed_at q) (take (suc n) fixed) + total g (free_index fixed (suc n))
+    go : total t n ≡ count_by (is_fixed_at q) (take n fixed) + total g (free_index fixed n) → (o : Option Seat)
+        → fixed_at fixed n ≡ o → total t n + t n ≡ count_by (is_fixed_at q) (take (suc n) fixed) + total g
+        (free_index fixed (suc n))
     go before None is =
         let at : t n ≡ g (free_index fixed n) = ap (λ o. one_if q (unwrap_or o (open_seat fixed (position_of places (free_index fixed n))))) is in
-        let more : free_index fixed (suc n) ≡ free_index fixed n + 1 = ap (free_index fixed) e ∙ index_more fixed n (omega arith) ∙ ap (λ o. free_index fixed n + cond (is_free o) 1 0) is in
-        let same : count_by (is_fixed_at q) (take (suc n) fixed) ≡ count_by (is_fixed_at q) (take n fixed) = ap (λ k. count_by (is_fixed_at q) (take k fixed)) e ∙ count_by_more_no (is_fixed_at q) fixed n None (omega arith) (ap (is_fixed_at q) is) in
+        let more : free_index fixed (suc n) ≡ free_index fixed n + 1 = ap (free_index fixed) e
+        ∙ index_more fixed n (omega arith) ∙ ap (λ o. free_index fixed n + cond (is_free o) 1 0) is in
+        let same : count_by (is_fixed_at q) (take (suc n) fixed) ≡ count_by (is_fixed_at q) (take n fixed) =
+        ap (λ k. count_by (is_fixed_at q) (take k fixed)) e
+        ∙ count_by_more_no (is_fixed_at q) fixed n None (omega arith) (ap (is_fixed_at q) is) in
         omega (arith, before, at, same, ap (total g) more, total_more g (free_index fixed n))
     go before (Some seat) is =
         let at : t n ≡ one_if q seat = ap (λ o. one_if q (unwrap_or o (open_seat fixed (position_of places (free_index fixed n))))) is in
-        let same : free_index fixed (suc n) ≡ free_index fixed n = ap (free_index fixed) e ∙ index_more fixed n (omega arith) ∙ ap (λ o. free_index fixed n + cond (is_free o) 1 0) is ∙ omega arith in
-        omega (arith, before, at, ap (total g) same, ap (λ k. count_by (is_fixed_at q) (take k fixed)) e, held_more (seat_number seat == seat_number q) (ap (is_fixed_at q) is))
+        let same : free_index fixed (suc n) ≡ free_index fixed n = ap (free_index fixed) e
+        ∙ index_more fixed n (omega arith) ∙ ap (λ o. free_index fixed n + cond (is_free o) 1 0) is
+        ∙ omega arith in
+        omega (
+          arith,
+          before,
+          at,
+          ap (total g) same,
+          ap (λ k. count_by (is_fixed_at q) (take k fixed)) e,
+          held_more (seat_number seat == seat_number q) (ap (is_fixed_at q) is),
+        )
       where
-        held_more : (b : Bool) → is_fixed_at q (fixed_at fixed n) ≡ b → count_by (is_fixed_at q) (take (n + 1) fixed) ≡ count_by (is_fixed_at q) (take n fixed) + cond b 1 0
+        held_more : (b : Bool) → is_fixed_at q (fixed_at fixed n) ≡ b
+            → count_by (is_fixed_at q) (take (n + 1) fixed) ≡ count_by (is_fixed_at q) (take n fixed) + cond b 1 0
         held_more true h = count_by_more_yes (is_fixed_at q) fixed n None (omega arith) h
         held_more false h = count_by_more_no (is_fixed_at q) fixed n None (omega arith) h ∙ omega arith
 
@@ -220,11 +249,13 @@ around_is_partition fixed x ok =
     }
 
 -- the index of a free card
-free_index_below : (fixed : List (Option Seat)) (c : ℕ) → IsFixed fixed → c < 52 → is_free (fixed_at fixed c) ≡ true → free_index fixed c < free_count fixed
+free_index_below : (fixed : List (Option Seat)) (c : ℕ) → IsFixed fixed → c < 52 → is_free (fixed_at fixed c) ≡ true
+    → free_index fixed c < free_count fixed
 free_index_below fixed c ok h vacant =
     let e : c + 1 + (51 - c) ≡ 52 = omega arith in
     let all : free_index fixed 52 ≡ free_count fixed = ap (count_by is_free) (take_all 52 fixed (omega (arith, ok.count))) in
-    let one : free_index fixed (c + 1) ≡ free_index fixed c + 1 = index_more fixed c (omega (arith, ok.count)) ∙ ap (λ b. free_index fixed c + cond b 1 0) vacant in
+    let one : free_index fixed (c + 1) ≡ free_index fixed c + 1 = index_more fixed c (omega (arith, ok.count))
+    ∙ ap (λ b. free_index fixed c + cond b 1 0) vacant in
     omega (arith, one, all, ap (free_index fixed) e, index_rises fixed (c + 1) (51 - c) (omega (arith, ok.count)))
 
 max_zero : (a : ℕ) → max a 0 ≡ a
@@ -248,176 +279,22 @@ seat_mask_around fixed x q mask settled ok held is =
     let low' : settled < 2 ^ 52 = rw is (mask-pack-lt within) in
     same_masks (bit_or mask settled) (seat_mask deal q) (or_lt 52 mask settled low low') (seat_mask-lt deal q whole)
     (λ c h.
-    let fixed_bit : bit_at mask c ≡ cond (is_fixed_at q (fixed_at fixed c)) 1 0 = ap (λ m. bit_at m c) held ∙ bit_mask_l (map (is_fixed_at q) fixed) c ∙ ap (λ b. cond b 1 0) (get_or-map (is_fixed_at q) fixed c None false (omega (arith, ok.count))) in
+    let fixed_bit : bit_at mask c ≡ cond (is_fixed_at q (fixed_at fixed c)) 1 0 = ap (λ m. bit_at m c) held
+    ∙ bit_mask_l (map (is_fixed_at q) fixed) c ∙ ap (λ b. cond b 1 0)
+    (get_or-map (is_fixed_at q) fixed c None false (omega (arith, ok.count))) in
     let dealt_bit : bit_at settled c ≡ cond (within c) 1 0 = ap (λ m. bit_at m c) is ∙ bit_at_pack within c h in
-    let seat : get_or deal c North ≡ seat_around fixed places c = get_or-map-range_with_len (seat_around fixed places) 0 52 c c North h (omega arith) in
+    let seat : get_or deal c North ≡ seat_around fixed places c =
+    get_or-map-range_with_len (seat_around fixed places) 0 52 c c North h (omega arith) in
     bit_at_or mask settled c ∙ rw (fixed_bit, dealt_bit) (go c h (fixed_at fixed c) refl)
     ∙ ap (one_if q) (sym seat) ∙ sym (bit_at_seat deal q c (rw whole.count h)))
   where
     go : (c : ℕ) → c < 52 → (o : Option Seat) → fixed_at fixed c ≡ o
-        → max (cond (is_fixed_at q (fixed_at fixed c)) 1 0) (cond (settles_within fixed (places_for (free_count fixed) x) (first_of fixed q) (first_of fixed q + room fixed q) c) 1 0) ≡ one_if q (seat_around fixed (places_for (free_count fixed) x) c)
+        → max (cond (is_fixed_at q (fixed_at fixed c)) 1 0)
+        (cond (settles_within fixed (places_for (free_count fixed) x) (first_of fixed q)
+        (first_of fixed q + room fixed q) c) 1 0) ≡ one_if q (seat_around fixed (places_for (free_count fixed) x) c)
     go c h None e =
         let p : ℕ = position_of (places_for (free_count fixed) x) (free_index fixed c) in
-        let below : p < free_count fixed = position_below (free_count fixed) x (free_index fixed c) (few_free fixed ok) (free_index_below fixed c ok h (ap is_free e)) in
+        let below : p < free_count fixed = position_below (free_count fixed) x (free_index fixed c)
+        (few_free fixed ok) (free_index_below fixed c ok h (ap is_free e)) in
         rw (e) (zero_max _ ∙ ap (λ b. cond b 1 0) (seat_at_open fixed p ok below q))
     go c h (Some seat) e = rw (e) (max_zero _)
-
--- the mask of a seat whose positions are settled
-seat_settled : (fixed : List (Option Seat)) (free : List ℕ) (x old new : ℕ) (cards next : List ℕ) (side : Side) (q : Seat) (set low high : ℕ) → IsFixed fixed → IsSide fixed q side
-    → low ≡ first_of fixed q → high ≡ first_of fixed q + room fixed q → IsSettled old new cards next set low high → high ≤ free_count fixed → IsDealingAround fixed free x old cards high
-    → bit_or side.mask set ≡ seat_mask (drawn_deal fixed x) q
-seat_settled fixed free x old new cards next side q set low high ok kept from to settled inside d =
-    seat_mask_around fixed x q side.mask set ok kept.mask (settled.mask fixed free x inside d ∙ rw (from, to) refl)
-
--- what is kept, of the list that contracts see
-pub kept_of : (kept fixed : List (Option Seat)) (n e s w : Side) (free : List ℕ) (count : ℕ) → kept ≡ fixed → IsKept kept n e s w free count → IsKept fixed n e s w free count
-kept_of kept fixed n e s w free count same k = subst (λ f. IsKept f n e s w free count) same k
-
--- the seat's positions are those below `high`, so many
-pub record IsNext (fixed : List (Option Seat)) (q : Seat) (high size : ℕ) : Type 0 where
-  pub high_is : high ≡ first_of fixed q + room fixed q
-  pub size_is : size ≡ room fixed q
-
--- with no card fixed
-pub next_of_whole : (fixed : List (Option Seat)) → IsFixed fixed → free_count fixed ≡ 52 → IsNext fixed West 52 13 × IsNext fixed South 39 13 × IsNext fixed East 26 13
-next_of_whole fixed ok all =
-    let sum = rooms_together fixed ok in
-    (record { high_is = omega (arith, sum, all); size_is = omega (arith, sum, all) }, record { high_is = omega (arith, sum, all); size_is = omega (arith, sum, all) }, record { high_is = omega (arith, sum, all); size_is = omega (arith, sum, all) })
-
--- and with some
-pub next_of_kept : (fixed : List (Option Seat)) (n e s w : Side) (free : List ℕ) (count : ℕ) → IsKept fixed n e s w free count
-    → IsNext fixed West count w.room × IsNext fixed South (count - w.room) s.room × IsNext fixed East (count - w.room - s.room) e.room
-next_of_kept fixed n e s w free count k =
-    let sum = rooms_together fixed k.fits in
-    let west = k.west.room in
-    let south = k.south.room in
-    (record { high_is = omega (arith, sum, k.all); size_is = west }, record { high_is = omega (arith, sum, k.all, west); size_is = south }, record { high_is = omega (arith, sum, k.all, west, south); size_is = k.east.room })
-
--- what West's exchanges leave
-pub west_dealt : (fixed : List (Option Seat)) (n e s w : Side) (free : List ℕ) (count high size x now : ℕ) (cards : List ℕ) (set : ℕ) → IsKept fixed n e s w free count → IsNext fixed West high size
-    → AreCards cards → IsSettled x now free cards set (high - size) high → IsWestDealt fixed x now cards (bit_or w.mask set)
-west_dealt fixed n e s w free count high size x now cards set k next are_cards settled =
-    let sum = rooms_together fixed k.fits in
-    let first : IsDealingAround fixed free x x free high =
-    dealing_around_at fixed free x x free (free_count fixed) high (omega (arith, sum, next.high_is)) (dealing_around_first fixed free x k.fits.count (subst (IsListed fixed free) k.all k.listed)) in
-    record {
-      is_open = record {
-        are_cards = are_cards;
-        free = free;
-        dealing =
-            dealing_around_at fixed free x now cards (high - size) (free_count fixed - room fixed West) (omega (arith, sum, next.high_is, next.size_is))
-            (settled.dealing fixed free x (omega (arith, sum, next.high_is)) first);
-      };
-      west_is = seat_settled fixed free x x now free cards w West set (high - size) high k.fits k.west (omega (arith, next.high_is, next.size_is)) next.high_is settled (omega (arith, sum, next.high_is)) first;
-    }
-
--- what South's leave
-pub south_dealt : (fixed : List (Option Seat)) (n e s w : Side) (free : List ℕ) (count high size x old now : ℕ) (cards later : List ℕ) (west set : ℕ) → IsKept fixed n e s w free count → IsNext fixed South high size
-    → AreCards later → IsSettled old now cards later set (high - size) high → IsWestDealt fixed x old cards west → IsSouthDealt fixed x now later west (bit_or s.mask set)
-south_dealt fixed n e s w free count high size x old now cards later west set k next are_cards settled before =
-    let sum = rooms_together fixed k.fits in
-    let at : IsDealingAround fixed before.is_open.free x old cards high =
-    dealing_around_at fixed before.is_open.free x old cards (free_count fixed - room fixed West) high (omega (arith, sum, next.high_is)) before.is_open.dealing in
-    record {
-      is_open = record {
-        are_cards = are_cards;
-        free = before.is_open.free;
-        dealing =
-            dealing_around_at fixed before.is_open.free x now later (high - size) (free_count fixed - room fixed West - room fixed South) (omega (arith, sum, next.high_is, next.size_is))
-            (settled.dealing fixed before.is_open.free x (omega (arith, sum, next.high_is)) at);
-      };
-      west_is = before.west_is;
-      south_is = seat_settled fixed before.is_open.free x old now cards later s South set (high - size) high k.fits k.south (omega (arith, next.high_is, next.size_is)) next.high_is settled (omega (arith, sum, next.high_is)) at;
-    }
-
--- East's hand
-pub east_dealt : (fixed : List (Option Seat)) (n e s w : Side) (free : List ℕ) (count high size x old now : ℕ) (cards later : List ℕ) (west south set : ℕ) → IsKept fixed n e s w free count → IsNext fixed East high size
-    → IsSettled old now cards later set (high - size) high → IsSouthDealt fixed x old cards west south → bit_or e.mask set ≡ seat_mask (drawn_deal fixed x) East
-east_dealt fixed n e s w free count high size x old now cards later west south set k next settled before =
-    let sum = rooms_together fixed k.fits in
-    let at : IsDealingAround fixed before.is_open.free x old cards high =
-    dealing_around_at fixed before.is_open.free x old cards (free_count fixed - room fixed West - room fixed South) high (omega (arith, sum, next.high_is)) before.is_open.dealing in
-    seat_settled fixed before.is_open.free x old now cards later e East set (high - size) high k.fits k.east (omega (arith, next.high_is, next.size_is)) next.high_is settled (omega (arith, sum, next.high_is)) at
-
--- the deal once West's and South's hands are dealt, where North is fixed whole
-pub dealt_without_east : (fixed : List (Option Seat)) (n : Side) (x now : ℕ) (cards : List ℕ) (west south : ℕ) → IsFixed fixed → IsSide fixed North n → n.room ≡ 0 → IsSouthDealt fixed x now cards west south
-    → (IsMasks n.mask (rest_of n.mask south west) south west) × (seats_of_masks n.mask (rest_of n.mask south west) south ≡ drawn_deal fixed x)
-dealt_without_east fixed n x now cards west south ok north none dealt =
-    let no_room : room fixed North ≡ 0 = omega (arith, none, north.room) in
-    let mask : n.mask ≡ seat_mask (drawn_deal fixed x) North =
-    sym (or_zero_r n.mask) ∙ seat_mask_around fixed x North n.mask 0 ok north.mask (no_mask fixed (places_for (free_count fixed) x) 0 (0 + room fixed North) (omega (arith, no_room))) in
-    rest_to_east (drawn_deal fixed x) n.mask south west (around_is_partition fixed x ok) mask dealt.south_is dealt.west_is
-
--- and once East's is dealt too
-pub dealt_without_north : (fixed : List (Option Seat)) (x now : ℕ) (cards : List ℕ) (east west south : ℕ) → IsFixed fixed → east ≡ seat_mask (drawn_deal fixed x) East → IsSouthDealt fixed x now cards west south
-    → (IsMasks (rest_of east south west) east south west) × (seats_of_masks (rest_of east south west) east south ≡ drawn_deal fixed x)
-dealt_without_north fixed x now cards east west south ok dealt_east dealt =
-    rest_to_north (drawn_deal fixed x) east south west (around_is_partition fixed x ok) dealt_east dealt.south_is dealt.west_is
-
--- all hands in a row, by how many cards are free and how many of them each seat gets
-chosen_east : (a b : ℕ) → a ≡ 0 → (if a == 0 then b else a) ≡ b
-chosen_east a b e = rw e refl
-
-chosen_north : (a b : ℕ) → a ≢ 0 → (if a == 0 then b else a) ≡ a
-chosen_north a b ne = grind (arith, nat_tests)
-
--- how many free cards there are, and how many of them East, South and West get
-pub record AreRooms (fixed : List (Option Seat)) (m e s w : ℕ) : Type 0 where
-  pub free : m ≡ free_count fixed
-  pub east : e ≡ room fixed East
-  pub south : s ≡ room fixed South
-  pub west : w ≡ room fixed West
-
--- the deals of West, then South, then East
-record AreDealings (fixed : List (Option Seat)) (free : List ℕ) (x one two : ℕ) (cards later : List ℕ) (side side' : Side) (m s w s' w' : ℕ) : Type 0 where
-  pub first : IsDealingAround fixed free x x free m
-  pub second : IsDealingAround fixed free x one cards (m - w)
-  pub third : IsDealingAround fixed free x two later (m - w - s)
-  pub south : bit_or side.mask s' ≡ seat_mask (drawn_deal fixed x) South
-  pub west : bit_or side'.mask w' ≡ seat_mask (drawn_deal fixed x) West
-
-dealings : (fixed : List (Option Seat)) (n e s w : Side) (free : List ℕ) (count m er sr wr x one two : ℕ) (cards later : List ℕ) (s' w' : ℕ) → IsKept fixed n e s w free count → AreRooms fixed m er sr wr
-    → IsSettled x one free cards w' (m - wr) m → IsSettled one two cards later s' (m - wr - sr) (m - wr) → AreDealings fixed free x one two cards later s w m sr wr s' w'
-dealings fixed n e s w free count m er sr wr x one two cards later s' w' k rooms wests souths =
-    let sum = rooms_together fixed k.fits in
-    let first : IsDealingAround fixed free x x free m =
-    dealing_around_at fixed free x x free (free_count fixed) m (sym rooms.free) (dealing_around_first fixed free x k.fits.count (subst (IsListed fixed free) k.all k.listed)) in
-    let second = wests.dealing fixed free x (omega (arith, rooms.free)) first in
-    record {
-      first = first;
-      second = second;
-      third = souths.dealing fixed free x (omega (arith, rooms.free)) second;
-      south = seat_settled fixed free x one two cards later s South s' (m - wr - sr) (m - wr) k.fits k.south (omega (arith, sum, rooms.free, rooms.south, rooms.west)) (omega (arith, sum, rooms.free, rooms.west)) souths (omega (arith, rooms.free)) second;
-      west = seat_settled fixed free x x one free cards w West w' (m - wr) m k.fits k.west (omega (arith, sum, rooms.free, rooms.west)) (omega (arith, sum, rooms.free)) wests (omega (arith, rooms.free)) first;
-    }
-
--- the deal once West's and South's positions are settled, where North is fixed whole
-pub whole_without_east : (fixed : List (Option Seat)) (n e s w : Side) (free : List ℕ) (count m er sr wr x one two : ℕ) (cards later : List ℕ) (s' w' : ℕ) → IsKept fixed n e s w free count → AreRooms fixed m er sr wr → m - wr - sr ≡ er
-    → IsSettled x one free cards w' (m - wr) m → IsSettled one two cards later s' (m - wr - sr) (m - wr)
-    → (IsMasks n.mask (rest_of n.mask (bit_or s.mask s') (bit_or w.mask w')) (bit_or s.mask s') (bit_or w.mask w'))
-    × (seats_of_masks n.mask (rest_of n.mask (bit_or s.mask s') (bit_or w.mask w')) (bit_or s.mask s') ≡ drawn_deal fixed x) × (two ≡ state_after x (draws_around fixed))
-whole_without_east fixed n e s w free count m er sr wr x one two cards later s' w' k rooms full wests souths =
-    let sum = rooms_together fixed k.fits in
-    let at = dealings fixed n e s w free count m er sr wr x one two cards later s' w' k rooms wests souths in
-    let none : room fixed North ≡ 0 = omega (arith, sum, rooms.free, rooms.east, rooms.south, rooms.west, full) in
-    let north : n.mask ≡ seat_mask (drawn_deal fixed x) North =
-    sym (or_zero_r n.mask) ∙ seat_mask_around fixed x North n.mask 0 k.fits k.north.mask (no_mask fixed (places_for (free_count fixed) x) 0 (0 + room fixed North) (omega (arith, none))) in
-    let rest = rest_to_east (drawn_deal fixed x) n.mask _ _ (around_is_partition fixed x k.fits) north at.south at.west in
-    let draws : free_count fixed - (m - wr - sr) ≡ draws_around fixed = omega (arith, full, rooms.east, chosen_east (room fixed North) (room fixed East) none) in
-    (rest.0, rest.1, at.third.drawn ∙ ap (state_after x) draws)
-
--- and once East's are settled too
-pub whole_without_north : (fixed : List (Option Seat)) (n e s w : Side) (free : List ℕ) (count m er sr wr x one two three : ℕ) (cards later last : List ℕ) (e' s' w' : ℕ) → IsKept fixed n e s w free count → AreRooms fixed m er sr wr
-    → m - wr - sr ≢ er → IsSettled x one free cards w' (m - wr) m → IsSettled one two cards later s' (m - wr - sr) (m - wr) → IsSettled two three later last e' (m - wr - sr - er) (m - wr - sr)
-    → (IsMasks (rest_of (bit_or e.mask e') (bit_or s.mask s') (bit_or w.mask w')) (bit_or e.mask e') (bit_or s.mask s') (bit_or w.mask w'))
-    × (seats_of_masks (rest_of (bit_or e.mask e') (bit_or s.mask s') (bit_or w.mask w')) (bit_or e.mask e') (bit_or s.mask s') ≡ drawn_deal fixed x) × (three ≡ state_after x (draws_around fixed))
-whole_without_north fixed n e s w free count m er sr wr x one two three cards later last e' s' w' k rooms some wests souths easts =
-    let sum = rooms_together fixed k.fits in
-    let at = dealings fixed n e s w free count m er sr wr x one two cards later s' w' k rooms wests souths in
-    let done = easts.dealing fixed free x (omega (arith, rooms.free)) at.third in
-    let east = seat_settled fixed free x two three later last e East e' (m - wr - sr - er) (m - wr - sr) k.fits k.east (omega (arith, sum, rooms.free, rooms.east, rooms.south, rooms.west)) (omega (arith, sum, rooms.free, rooms.south, rooms.west)) easts (omega (arith, rooms.free)) at.third in
-    let rest = rest_to_north (drawn_deal fixed x) _ _ _ (around_is_partition fixed x k.fits) east at.south at.west in
-    let given : room fixed North ≢ 0 = λ z. some (omega (arith, sum, rooms.free, rooms.east, rooms.south, rooms.west, z)) in
-    let draws : free_count fixed - (m - wr - sr - er) ≡ draws_around fixed =
-    omega (arith, sum, rooms.free, rooms.east, rooms.south, rooms.west, chosen_north (room fixed North) (room fixed East) given) in
-    (rest.0, rest.1, done.drawn ∙ ap (state_after x) draws)

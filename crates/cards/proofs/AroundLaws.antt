@@ -12,7 +12,8 @@ use Rattle.cards.specs.Pack.{seat_at_position, seat_of_number}
 use Rattle.cards.specs.Shuffle.{drawn_places, card_at, pack}
 use Rattle.cards.specs.Deals.{dealt, position_of}
 use Rattle.cards.specs.Candidates.{candidate, state_before}
-use Rattle.cards.specs.Fixed.{IsFixed, candidate_around, dealt_around, free_count, free_index, is_free, none_fixed, open_seat, places_for, seat_around}
+use Rattle.cards.specs.Fixed.{IsFixed, candidate_around, dealt_around, free_count, free_index, is_free, none_fixed}
+use Rattle.cards.specs.Fixed.{open_seat, places_for, seat_around}
 use Rattle.cards.specs.internal.Around.{fixed_at}
 use Rattle.cards.proofs.Dealing.{card_at-position_of, position_of-card_at}
 use Rattle.cards.proofs.FewPlaces.{are_places, is_less, isn't_less, same_places}
@@ -81,11 +82,13 @@ seat_in_deal fixed places c o ok at =
     (get_or-map-range_with_len (seat_around fixed places) 0 52 c c North below (omega arith)
     ∙ ap (λ p. unwrap_or p (open_seat fixed (position_of places (free_index fixed c)))) (get_or_from_slice_get fixed c o None at))
 
-pub fixed_stay : (fixed : List (Option Seat)) (seed k c : ℕ) (seat : Seat) → IsFixed fixed → slice_get fixed c ≡ Some (Some seat) → slice_get (candidate_around fixed seed k) c ≡ Some seat
+pub fixed_stay : (fixed : List (Option Seat)) (seed k c : ℕ) (seat : Seat) → IsFixed fixed
+    → slice_get fixed c ≡ Some (Some seat) → slice_get (candidate_around fixed seed k) c ≡ Some seat
 fixed_stay fixed seed k c seat ok at = seat_in_deal fixed (places_for (free_count fixed) (state_before seed k)) c (Some seat) ok at
 
 pub free_are_dealt : (fixed : List (Option Seat)) (seed k c i : ℕ) → IsFixed fixed → i < free_count fixed → slice_get fixed c ≡ Some None
-    → free_index fixed c ≡ card_at (places_for (free_count fixed) (state_before seed k)) i → slice_get (candidate_around fixed seed k) c ≡ Some (open_seat fixed i)
+    → free_index fixed c ≡ card_at (places_for (free_count fixed) (state_before seed k)) i
+    → slice_get (candidate_around fixed seed k) c ≡ Some (open_seat fixed i)
 free_are_dealt fixed seed k c i ok inside at index =
     let places : List ℕ = places_for (free_count fixed) (state_before seed k) in
     seat_in_deal fixed places c None ok at

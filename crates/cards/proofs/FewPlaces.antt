@@ -72,7 +72,8 @@ traced_past m x i (suc k) h =
     let e : m - 1 + suc k ≡ suc n = omega arith in
     let at : place_at (places_for m x) (n + 2) ≡ 51 - (52 - (n + 2)) = stays_at m x (52 - (n + 2)) (omega arith) (omega arith) in
     let same : place_at (places_for m x) (n + 2) ≡ n + 1 = omega (arith, at) in
-    ap (traced (places_for m x) i) e ∙ ap (λ b. other_of (n + 1) b (traced (places_for m x) i n)) same ∙ nothing_moves (n + 1) (traced (places_for m x) i n) ∙ traced_past m x i k (omega arith)
+    ap (traced (places_for m x) i) e ∙ ap (λ b. other_of (n + 1) b (traced (places_for m x) i n)) same
+    ∙ nothing_moves (n + 1) (traced (places_for m x) i n) ∙ traced_past m x i k (omega arith)
 
 pub traced_all : (m x i : ℕ) → m ≤ 52 → traced (places_for m x) i (m - 1) ≡ card_at (places_for m x) i
 unfolding card_at

@@ -1,5 +1,6 @@
 -- The masks and the list that are kept of fixed cards.
-use Rattle.std.proofs.Common.{◌≡◌, ℕ, ◌+◌, ◌*◌, ◌%◌, ◌^◌, ◌<◌, ◌≤◌, ◌≢◌, Bool, true, false, cond, List, length, take, replicate, get_or, set, sym, ap, ◌∙◌, arith, inl, inr, ◌⊎◌}
+use Rattle.std.proofs.Common.{◌≡◌, ℕ, ◌+◌, ◌*◌, ◌%◌, ◌^◌, ◌<◌, ◌≤◌, ◌≢◌, Bool, true, false, cond, List, length, take}
+use Rattle.std.proofs.Common.{replicate, get_or, set, sym, ap, ◌∙◌, arith, inl, inr, ◌⊎◌}
 use Rattle.std.specs.Prelude.{Option}
 use Rattle.std.specs.List.{count_by}
 use Rattle.std.specs.Int.Bits.{bit_or}
@@ -20,7 +21,8 @@ bit_taken cards i mask new inside small e test is =
     let joined : bit_or mask (1 * 2 ^ i % 2 ^ 64) ≡ mask + 2 ^ i = ap (bit_or mask) (one_shl i 64 small) ∙ mask_more cards i mask inside e in
     omega (arith, is, joined, e, held, mask_step cards i inside)
 
-pub bit_passed : (cards : List Bool) (i mask new : ℕ) → i < length cards → mask ≡ mask_l (take i cards) → get_or cards i false ≡ false → new ≡ mask → new ≡ mask_l (take (i + 1) cards)
+pub bit_passed : (cards : List Bool) (i mask new : ℕ) → i < length cards → mask ≡ mask_l (take i cards)
+    → get_or cards i false ≡ false → new ≡ mask → new ≡ mask_l (take (i + 1) cards)
 bit_passed cards i mask new inside e test is =
     let none : cond (get_or cards i false) (2 ^ i) 0 ≡ 0 = ap (λ b. cond b (2 ^ i) 0) test in
     omega (arith, is, e, none, mask_step cards i inside)

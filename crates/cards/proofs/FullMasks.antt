@@ -34,7 +34,8 @@ bit_held deal seat i ok h = bit_at_seat deal seat i (rw ok.count h)
 
 apart : (deal : List Seat) (a b : Seat) → IsPartition deal → seat_number a ≢ seat_number b → bit_and (seat_mask deal a) (seat_mask deal b) ≡ 0
 apart deal a b ok ne =
-    same_from_bits_below 52 (bit_and (seat_mask deal a) (seat_mask deal b)) 0 (omega (arith, and_le_l (seat_mask deal a) (seat_mask deal b), seat_mask-lt deal a ok)) (omega arith)
+    same_from_bits_below 52 (bit_and (seat_mask deal a) (seat_mask deal b)) 0
+    (omega (arith, and_le_l (seat_mask deal a) (seat_mask deal b), seat_mask-lt deal a ok)) (omega arith)
     (λ i h.
     bit_at_and (seat_mask deal a) (seat_mask deal b) i
     ∙ ap (λ x. min x (bit_at (seat_mask deal b) i)) (bit_held deal a i ok h) ∙ ap (min (bit_of (get_or deal i North) a)) (bit_held deal b i ok h)
@@ -43,14 +44,16 @@ apart deal a b ok ne =
 four_bits : (n e s w n' e' s' w' : ℕ) → n ≡ n' → e ≡ e' → s ≡ s' → w ≡ w' → max (max n e) (max s w) ≡ max (max n' e') (max s' w')
 four_bits n e s w n' e' s' w' p q r t = rw (p, q, r, t) refl
 
-together : (deal : List Seat) → IsPartition deal → bit_or (bit_or (seat_mask deal North) (seat_mask deal East)) (bit_or (seat_mask deal South) (seat_mask deal West)) ≡ 2 ^ 52 - 1
+together : (deal : List Seat) → IsPartition deal → bit_or (bit_or (seat_mask deal North) (seat_mask deal East))
+    (bit_or (seat_mask deal South) (seat_mask deal West)) ≡ 2 ^ 52 - 1
 together deal ok =
     let n : ℕ = seat_mask deal North in
     let e : ℕ = seat_mask deal East in
     let s : ℕ = seat_mask deal South in
     let w : ℕ = seat_mask deal West in
     same_from_bits_below 52 (bit_or (bit_or n e) (bit_or s w)) (2 ^ 52 - 1)
-    (or_lt 52 (bit_or n e) (bit_or s w) (or_lt 52 n e (seat_mask-lt deal North ok) (seat_mask-lt deal East ok)) (or_lt 52 s w (seat_mask-lt deal South ok) (seat_mask-lt deal West ok))) (omega arith)
+    (or_lt 52 (bit_or n e) (bit_or s w) (or_lt 52 n e (seat_mask-lt deal North ok) (seat_mask-lt deal East ok))
+    (or_lt 52 s w (seat_mask-lt deal South ok) (seat_mask-lt deal West ok))) (omega arith)
     (λ i h.
     bit_at_or (bit_or n e) (bit_or s w) i
     ∙ ap (λ x. max x (bit_at (bit_or s w) i)) (bit_at_or n e i) ∙ ap (max (max (bit_at n i) (bit_at e i))) (bit_at_or s w i)
@@ -63,9 +66,17 @@ counted p deal = ones-mask_l p deal
 thirteen : (deal : List Seat) (seat : Seat) → IsPartition deal → count_ones (seat_mask deal seat) ≡ 13
 thirteen deal seat ok = counted (λ holder. seat_number holder == seat_number seat) deal ∙ ok.thirteen seat
 
-pub full_masks : (deal : List Seat) → IsPartition deal → IsFull (seat_mask deal North) (seat_mask deal East) (seat_mask deal South) (seat_mask deal West)
+pub full_masks : (deal : List Seat) → IsPartition deal
+    → IsFull (seat_mask deal North) (seat_mask deal East) (seat_mask deal South) (seat_mask deal West)
 full_masks deal ok = record {
-  apart = (apart deal North East ok (omega arith), apart deal North South ok (omega arith), apart deal North West ok (omega arith), apart deal East South ok (omega arith), apart deal East West ok (omega arith), apart deal South West ok (omega arith));
+  apart = (
+    apart deal North East ok (omega arith),
+    apart deal North South ok (omega arith),
+    apart deal North West ok (omega arith),
+    apart deal East South ok (omega arith),
+    apart deal East West ok (omega arith),
+    apart deal South West ok (omega arith),
+  );
   together = together deal ok;
   thirteen = (thirteen deal North ok, thirteen deal East ok, thirteen deal South ok, thirteen deal West ok);
 }
@@ -84,7 +95,8 @@ sum_of_full n e s w full =
     omega (arith, or_disjoint n e ne, or_disjoint s w sw, or_disjoint (bit_or n e) (bit_or s w) none, all)
 
 -- the masks of a partition are those of a deal
-pub masks_of_partition : (deal : List Seat) (n e s w : ℕ) → IsPartition deal → n ≡ seat_mask deal North → e ≡ seat_mask deal East → s ≡ seat_mask deal South → w ≡ seat_mask deal West → IsMasks n e s w
+pub masks_of_partition : (deal : List Seat) (n e s w : ℕ) → IsPartition deal → n ≡ seat_mask deal North
+    → e ≡ seat_mask deal East → s ≡ seat_mask deal South → w ≡ seat_mask deal West → IsMasks n e s w
 masks_of_partition deal n e s w ok en ee es ew =
     let view = masks_view deal n e s ok en ee es in
     record {

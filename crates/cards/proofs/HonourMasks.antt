@@ -5,7 +5,8 @@ use lib.Lanes.{mask_l}
 use Rattle.cards.specs.Shuffle.{pack}
 
 pub honours_by_case : (a k q j t : Bool)
-    → bit_or (bit_or (bit_or (cond a 0x8004002001 0) (cond k 0x10008004002 0)) (cond q 0x20010008004 0)) (bit_or (cond j 0x40020010008 0) (cond t 0x80040020010 0))
+    → bit_or (bit_or (bit_or (cond a 0x8004002001 0) (cond k 0x10008004002 0)) (cond q 0x20010008004 0))
+    (bit_or (cond j 0x40020010008 0) (cond t 0x80040020010 0))
     ≡ mask_l (map (λ c. get_or (a ∷ k ∷ q ∷ j ∷ t ∷ []) (c % 13) false) pack)
 unfolding pack
 honours_by_case true true true true true = refl

@@ -17,7 +17,8 @@ use Rattle.cards.specs.internal.Masks.{cards_of_mask, seat_mask}
 use Rattle.cards.proofs.DealMasks.{cards_of_seat}
 
 -- while hands are dealt the next candidate stays the same
-pub stays : (around : List (Option Seat)) (seed k step : ℕ) (view : CandidatesView) (x stride dealt : ℕ) (now : List (Option Seat)) → GoesOnAt view around seed k step
+pub stays : (around : List (Option Seat)) (seed k step : ℕ) (view : CandidatesView) (x stride dealt : ℕ)
+    (now : List (Option Seat)) → GoesOnAt view around seed k step
     → x ≡ view.state → stride ≡ view.stride → now ≡ view.fixed
     → GoesOnAt (record { state = x; stride = stride; fixed = now; dealt = dealt }) around seed k step
 stays around seed k step view x stride dealt now at x_is stride_is now_is = record {
@@ -28,7 +29,8 @@ stays around seed k step view x stride dealt now at x_is stride_is now_is = reco
 }
 
 -- past the draws of candidate k and of those up to the next one
-pub past : (around : List (Option Seat)) (seed k step : ℕ) (view : CandidatesView) (x y stride dealt : ℕ) (now : List (Option Seat)) → GoesOnAt view around seed k step
+pub past : (around : List (Option Seat)) (seed k step : ℕ) (view : CandidatesView) (x y stride dealt : ℕ)
+    (now : List (Option Seat)) → GoesOnAt view around seed k step
     → x ≡ view.state → stride ≡ view.stride → now ≡ view.fixed → y ≡ state_after x stride
     → GoesOnAt (record { state = y; stride = stride; fixed = now; dealt = dealt }) around seed (k + step) step
 past around seed k step view x y stride dealt now at x_is stride_is now_is y_is =
@@ -44,7 +46,8 @@ past around seed k step view x y stride dealt now at x_is stride_is now_is y_is 
     }
 
 -- the same by the draws that candidate k takes, and then past the others
-pub past_draws : (around : List (Option Seat)) (seed k step : ℕ) (view : CandidatesView) (x y z taken gap stride dealt : ℕ) (now : List (Option Seat)) → GoesOnAt view around seed k step
+pub past_draws : (around : List (Option Seat)) (seed k step : ℕ) (view : CandidatesView)
+    (x y z taken gap stride dealt : ℕ) (now : List (Option Seat)) → GoesOnAt view around seed k step
     → x ≡ view.state → stride ≡ view.stride → now ≡ view.fixed → taken + gap ≡ stride → y ≡ state_after x taken → z ≡ state_after y gap
     → GoesOnAt (record { state = z; stride = stride; fixed = now; dealt = dealt }) around seed (k + step) step
 past_draws around seed k step view x y z taken gap stride dealt now at x_is stride_is now_is whole y_is z_is =
@@ -61,8 +64,10 @@ mask_below fixed x q mask is =
     rw is (rw long at (mask_l-lt (hand_of (drawn_deal fixed x) q)))
 
 -- the mask of a seat's cards, as its hand in the deal of the next candidate
-pub hand_there : (around : List (Option Seat)) (seed k step : ℕ) (view : CandidatesView) (x : ℕ) (now : List (Option Seat)) (q : Seat) (mask : ℕ) (hand : List Bool) → GoesOnAt view around seed k step
-    → x ≡ view.state → now ≡ view.fixed → mask ≡ seat_mask (drawn_deal now x) q → hand ≡ cards_of_mask mask → hand ≡ hand_of (candidate_around around seed k) q
+pub hand_there : (around : List (Option Seat)) (seed k step : ℕ) (view : CandidatesView) (x : ℕ)
+    (now : List (Option Seat)) (q : Seat) (mask : ℕ) (hand : List Bool) → GoesOnAt view around seed k step
+    → x ≡ view.state → now ≡ view.fixed → mask ≡ seat_mask (drawn_deal now x) q → hand ≡ cards_of_mask mask
+    → hand ≡ hand_of (candidate_around around seed k) q
 hand_there around seed k step view x now q mask hand at x_is now_is mask_is hand_is =
     hand_is ∙ ap cards_of_mask mask_is ∙ cards_of_seat (drawn_deal now x) q (length_drawn now x)
     ∙ ap (λ s. hand_of (drawn_deal now s) q) (x_is ∙ at.before)

@@ -1,5 +1,6 @@
 -- The losers of a suit are the cards that count less those of them that the hand has.
-use Rattle.std.proofs.Common.{◌≡◌, ℕ, ◌+◌, ◌*◌, ◌-◌, ◌/◌, ◌%◌, ◌^◌, ◌<◌, ◌==◌, min, not, Bool, true, false, cond, List, [], ◌∷◌, length, map, refl, sym, ◌∙◌, ap, arith}
+use Rattle.std.proofs.Common.{◌≡◌, ℕ, ◌+◌, ◌*◌, ◌-◌, ◌/◌, ◌%◌, ◌^◌, ◌<◌, ◌==◌, min, not, Bool, true, false, cond}
+use Rattle.std.proofs.Common.{List, [], ◌∷◌, length, map, refl, sym, ◌∙◌, ap, arith}
 use Rattle.std.specs.Int.{bit_at}
 use Rattle.std.specs.Int.RustNames.{bit_and, count_ones}
 use Rattle.std.specs.List.{count_by, range_with_len}
@@ -32,7 +33,8 @@ not_and_is p (x ∷ xs) =
 abbrev is_held : List Bool → Suit → ℕ → Bool
 is_held hand suit rank = holds_card hand (13 * suit_number suit + rank)
 
-held_rank : (mask first rank : ℕ) (hand : List Bool) (suit : Suit) → mask < 2 ^ 52 → cards_of_mask mask ≡ hand → first ≡ 13 * suit_number suit → cond (is_held hand suit rank) 1 0 ≡ bit_at mask (first + rank)
+held_rank : (mask first rank : ℕ) (hand : List Bool) (suit : Suit) → mask < 2 ^ 52 → cards_of_mask mask ≡ hand
+    → first ≡ 13 * suit_number suit → cond (is_held hand suit rank) 1 0 ≡ bit_at mask (first + rank)
 held_rank mask first rank hand suit h view same =
     let held : (bit_at mask (first + rank) == 1) ≡ is_held hand suit rank =
     sym (card_at_mask mask (first + rank) h) ∙ ap (λ d. holds_card d (first + rank)) view ∙ ap (λ k. holds_card hand (k + rank)) same in
@@ -54,7 +56,8 @@ winners_are mask first n hand suit h view same =
     ∙ sym (bit_mask_l list i))
 
 -- the losers and the winners of the first n ranks are n
-pub losers_and_winners : (mask first n : ℕ) (hand : List Bool) (suit : Suit) → mask < 2 ^ 52 → cards_of_mask mask ≡ hand → first ≡ 13 * suit_number suit
+pub losers_and_winners : (mask first n : ℕ) (hand : List Bool) (suit : Suit) → mask < 2 ^ 52
+    → cards_of_mask mask ≡ hand → first ≡ 13 * suit_number suit
     → count_by (λ rank. not (is_held hand suit rank)) (range_with_len 0 n) + count_ones (bit_and (mask / 2 ^ first) (2 ^ n - 1)) ≡ n
 losers_and_winners mask first n hand suit h view same =
     omega (
@@ -66,11 +69,13 @@ losers_and_winners mask first n hand suit h view same =
     )
 
 -- the same of as many ranks as count, as they are counted
-pub losers_as_counted : (mask first n len : ℕ) (hand : List Bool) (suit : Suit) → mask < 2 ^ 52 → cards_of_mask mask ≡ hand → first ≡ 13 * suit_number suit
+pub losers_as_counted : (mask first n len : ℕ) (hand : List Bool) (suit : Suit) → mask < 2 ^ 52
+    → cards_of_mask mask ≡ hand → first ≡ 13 * suit_number suit
     → len ≡ length_of hand suit → n ≡ min len 3
     → losers_in hand suit + count_ones (bit_and (mask / 2 ^ first) (1 * 2 ^ n % 2 ^ 64 - 1)) ≡ n
 losers_as_counted mask first n len hand suit h view same long e =
     let counted : n ≡ min (length_of hand suit) 3 = e ∙ ap (λ l. min l 3) long in
     ap (λ m. losers_in hand suit + count_ones (bit_and (mask / 2 ^ first) (m - 1))) (one_shl n 64 (omega (arith, e)))
-    ∙ ap (λ k. count_by (λ rank. not (is_held hand suit rank)) (range_with_len 0 k) + count_ones (bit_and (mask / 2 ^ first) (2 ^ n - 1))) (sym counted)
+    ∙ ap (λ k. count_by (λ rank. not (is_held hand suit rank)) (range_with_len 0 k) + count_ones
+    (bit_and (mask / 2 ^ first) (2 ^ n - 1))) (sym counted)
     ∙ losers_and_winners mask first n hand suit h view same

@@ -1,5 +1,6 @@
 -- A deal and a flag in three words, and a seed and fixed cards.
-use Rattle.std.proofs.Common.{◌≡◌, ℕ, ◌+◌, ◌/◌, ◌%◌, ◌^◌, ◌<◌, ◌≤◌, ◌==◌, max, Bool, true, false, cond, List, length, map, get_or, refl, sym, ◌∙◌, ap, arith, inl, inr, subst}
+use Rattle.std.proofs.Common.{◌≡◌, ℕ, ◌+◌, ◌/◌, ◌%◌, ◌^◌, ◌<◌, ◌≤◌, ◌==◌, max, Bool, true, false, cond, List, length}
+use Rattle.std.proofs.Common.{map, get_or, refl, sym, ◌∙◌, ap, arith, inl, inr, subst}
 use Rattle.std.specs.Prelude.{Option, Some, None, if◌then◌else◌}
 use Rattle.std.specs.Int.{bit_at}
 use Rattle.std.specs.Int.RustNames.{bit_or}
@@ -20,7 +21,8 @@ use Rattle.cards.specs.Packed.{HasNumber, PackedView, deal_in, flag_in, undealt,
 use Rattle.cards.specs.Shuffle.{pack}
 use Rattle.cards.specs.internal.Around.{fixed_mask}
 use Rattle.cards.specs.internal.Masks.{IsFull, seat_mask, seats_of_masks}
-use Rattle.cards.specs.internal.PackedMasks.{IsPacked, above_in, cards_in, first_of, fixed_told, joined, rest_of, second_of, seed_told, shown, third_of, told, told_at}
+use Rattle.cards.specs.internal.PackedMasks.{IsPacked, above_in, cards_in, first_of, fixed_told, joined, rest_of}
+use Rattle.cards.specs.internal.PackedMasks.{second_of, seed_told, shown, third_of, told, told_at}
 use Rattle.cards.proofs.DealMasks.{masks_view, seat_mask-lt}
 use Rattle.cards.proofs.FullMasks.{full_masks, masks_of_partition, sum_of_full}
 
@@ -43,7 +45,11 @@ unfolding shown
 shown_whole a b c h = if_true _ _ _ (lt-ltb (above_in a) 2 h)
 
 pub shown_undealt : (a b c : ℕ) → 2 ≤ above_in a
-    → shown a b c ≡ undealt (record { seed = seed_told (above_in a) (above_in b) (above_in c); fixed = fixed_told (cards_in a) (cards_in b) (cards_in c) })
+    → shown a b c ≡ undealt (record {
+      seed = seed_told (above_in a) (above_in b) (above_in c);
+      fixed =
+          fixed_told (cards_in a) (cards_in b) (cards_in c);
+    })
 unfolding shown
 shown_undealt a b c h = if_false _ _ _ (le-ltb (above_in a) 2 h)
 
@@ -94,7 +100,8 @@ deal_packed deal flag n a b c ok en ea eb ec =
     let view = shown_deal deal flag n a b c ok en ea eb ec in
     let (cards, above) = words_of_deal deal flag n a ok en ea in
     let rest : rest_of (cards_in a) b c ≡ seat_mask deal West =
-    rw (cards, eb, ec) (sym (west_is_rest (seat_mask deal North) (seat_mask deal East) (seat_mask deal South) (seat_mask deal West) (full_masks deal ok))) in
+    rw (cards, eb, ec) (sym (west_is_rest (seat_mask deal North) (seat_mask deal East) (seat_mask deal South)
+    (seat_mask deal West) (full_masks deal ok))) in
     let low : above_in a < 2 = rw above (flag_less flag) in
     record {
       first_is = ap first_of view ∙ ap (λ m. joined m (cond flag 1 0)) (sym en) ∙ sym ea;
@@ -115,13 +122,15 @@ pub two_masks-lt : (fixed : List (Option Seat)) (one other : Seat) → IsFixed f
 two_masks-lt fixed one other ok =
     or_lt 52 (fixed_mask fixed one) (fixed_mask fixed other) (fixed_mask-lt fixed one ok) (fixed_mask-lt fixed other ok)
 
-bit_of_fixed : (fixed : List (Option Seat)) (seat : Seat) (i : ℕ) → i < length fixed → bit_at (fixed_mask fixed seat) i ≡ cond (is_fixed_at seat (get_or fixed i None)) 1 0
+bit_of_fixed : (fixed : List (Option Seat)) (seat : Seat) (i : ℕ) → i < length fixed
+    → bit_at (fixed_mask fixed seat) i ≡ cond (is_fixed_at seat (get_or fixed i None)) 1 0
 bit_of_fixed fixed seat i h =
     bit_mask_l (map (is_fixed_at seat) fixed) i
     ∙ ap (λ b. cond b 1 0) (get_or-map (is_fixed_at seat) fixed i None false h)
 
 bit_of_two : (fixed : List (Option Seat)) (one other : Seat) (i : ℕ) → i < length fixed
-    → bit_at (bit_or (fixed_mask fixed one) (fixed_mask fixed other)) i ≡ max (cond (is_fixed_at one (get_or fixed i None)) 1 0) (cond (is_fixed_at other (get_or fixed i None)) 1 0)
+    → bit_at (bit_or (fixed_mask fixed one) (fixed_mask fixed other)) i ≡ max
+    (cond (is_fixed_at one (get_or fixed i None)) 1 0) (cond (is_fixed_at other (get_or fixed i None)) 1 0)
 bit_of_two fixed one other i h =
     bit_at_or (fixed_mask fixed one) (fixed_mask fixed other) i
     ∙ ap (λ b. max b (bit_at (fixed_mask fixed other) i)) (bit_of_fixed fixed one i h)
@@ -145,7 +154,8 @@ three_told a b c a' b' c' ea eb ec = rw (ea, eb, ec) refl
 
 -- the masks of fixed cards tell them
 fixed_back : (fixed : List (Option Seat)) → IsFixed fixed
-    → fixed_told (bit_or (fixed_mask fixed North) (fixed_mask fixed West)) (bit_or (fixed_mask fixed East) (fixed_mask fixed West)) (fixed_mask fixed South) ≡ fixed
+    → fixed_told (bit_or (fixed_mask fixed North) (fixed_mask fixed West))
+    (bit_or (fixed_mask fixed East) (fixed_mask fixed West)) (fixed_mask fixed South) ≡ fixed
 unfolding fixed_told pack
 fixed_back fixed ok =
     let a : ℕ = bit_or (fixed_mask fixed North) (fixed_mask fixed West) in
@@ -160,7 +170,8 @@ fixed_back fixed ok =
     ∙ told_back (get_or fixed i None))
 
 -- 52 seats, each told by its bits
-pub told_all : (a b c : ℕ) (seats : List (Option Seat)) → length seats ≡ 52 → ((i : ℕ) → i < 52 → get_or seats i None ≡ told_at a b c i) → seats ≡ fixed_told a b c
+pub told_all : (a b c : ℕ) (seats : List (Option Seat)) → length seats ≡ 52
+    → ((i : ℕ) → i < 52 → get_or seats i None ≡ told_at a b c i) → seats ≡ fixed_told a b c
 unfolding fixed_told pack
 told_all a b c seats long each =
     ext_get_or None seats (map (told_at a b c) (range_with_len 0 52)) (long ∙ sym (length-map-range_with_len (told_at a b c) 0 52))
@@ -195,7 +206,8 @@ source_told seed fixed a b c ok ea eb ec =
     let high : above_in a ≡ 2 + seed / 2 ^ 24 = ap above_in ea ∙ above_back _ _ la in (
       rw high (omega arith),
       three_seeds _ _ _ _ _ _ high (ap above_in eb ∙ above_back _ _ lb) (ap above_in ec ∙ above_back _ _ lc) ∙ seed_back seed,
-      three_fixed _ _ _ _ _ _ (ap cards_in ea ∙ cards_back _ _ la) (ap cards_in eb ∙ cards_back _ _ lb) (ap cards_in ec ∙ cards_back _ _ lc) ∙ fixed_back fixed ok,
+      three_fixed _ _ _ _ _ _ (ap cards_in ea ∙ cards_back _ _ la) (ap cards_in eb ∙ cards_back _ _ lb)
+          (ap cards_in ec ∙ cards_back _ _ lc) ∙ fixed_back fixed ok,
     )
 
 pub shown_source : (seed : ℕ) (fixed : List (Option Seat)) (a b c : ℕ) → IsFixed fixed
@@ -241,7 +253,8 @@ flag_number true number is = is
 flag_number false number is = is
 
 -- what the deal of the candidate of a number is
-pub deal_of_whole : (a b c number : ℕ) (view : PackedView) → above_in a < 2 → shown a b c ≡ view → seats_of_masks (cards_in a) b c ≡ deal_in view number
+pub deal_of_whole : (a b c number : ℕ) (view : PackedView) → above_in a < 2 → shown a b c ≡ view
+    → seats_of_masks (cards_in a) b c ≡ deal_in view number
 deal_of_whole a b c number view h is = ap (λ v. deal_in v number) (sym (shown_whole a b c h) ∙ is)
 
 pub deal_of_undealt : (a b c number seed : ℕ) (fixed : List (Option Seat)) (view : PackedView) → 2 ≤ above_in a → shown a b c ≡ view

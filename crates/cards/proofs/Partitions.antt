@@ -22,7 +22,9 @@ traced_at_first places ok = record {
   card = λ i h. before_exchanges places i ok h;
 }
 
-pub traced_on : (places old new : List ℕ) (place p : ℕ) → IsPlaces places → 0 < p → p < 52 → place ≡ get_or places (51 - p) 0 → new ≡ swap old p place → IsPermutation old new → IsTraced places old p → IsTraced places new (p - 1)
+pub traced_on : (places old new : List ℕ) (place p : ℕ) → IsPlaces places → 0 < p → p < 52
+    → place ≡ get_or places (51 - p) 0 → new ≡ swap old p place → IsPermutation old new → IsTraced places old p
+    → IsTraced places new (p - 1)
 traced_on places old new place p ok above below read is moved before = record {
   whole = IsPermutation-trans pack old new before.whole moved;
   card = λ i h. exchange places old new place p i ok (long places old p before) above below read is ∙ before.card i h;
@@ -37,9 +39,15 @@ exchanged places ok (suc n) le =
     let place : ℕ = get_or places (51 - p) 0 in
     let count = long places before.0 p before.1 in
     let below : place < 52 - (51 - p) = ok.below (51 - p) (omega arith) in
-    let moved : IsPermutation before.0 (swap before.0 p place) = IsPermutation-swap before.0 (swap before.0 p place) p place (omega (arith, count)) (omega (arith, count, below)) refl in
-    let next : p - 1 ≡ 51 - suc n = omega arith in
-    (swap before.0 p place, subst (IsTraced places (swap before.0 p place)) next (traced_on places before.0 (swap before.0 p place) place p ok (omega arith) (omega arith) refl refl moved before.1))
+    let moved : IsPermutation before.0 (swap before.0 p place) =
+    IsPermutation-swap before.0 (swap before.0 p place) p place (omega (arith, count))
+    (omega (arith, count, below)) refl in
+    let next : p - 1 ≡ 51 - suc n = omega arith in (
+      swap before.0 p place,
+      subst (IsTraced places (swap before.0 p place)) next
+          (traced_on places before.0 (swap before.0 p place) place p ok (omega arith) (omega arith) refl refl moved
+          before.1),
+    )
 
 dealt_is_partition : (places cards : List ℕ) (n : ℕ) → n ≡ 0 → IsTraced places cards n → IsPartition (dealt places)
 dealt_is_partition places cards n none ok =
@@ -55,7 +63,8 @@ positions_whole places ok =
     let all = exchanged places ok 51 (omega arith) in
     let cards : List ℕ = all.0 in
     let traced : IsTraced places cards 0 = all.1 in
-    let at : (i : ℕ) → i < 52 → get_or cards i 0 ≡ card_at places i = λ i h. ap (λ x. get_or cards x 0) (sym (traced-none places i 0 refl)) ∙ traced.card i h in
+    let at : (i : ℕ) → i < 52 → get_or cards i 0 ≡ card_at places i =
+    λ i h. ap (λ x. get_or cards x 0) (sym (traced-none places i 0 refl)) ∙ traced.card i h in
     subst (IsPermutation pack) (fill_by_all (card_at places) cards 52 0 (long places cards 0 traced) at) traced.whole
 
 pub candidate_partition : (seed k : ℕ) → IsPartition (candidate seed k)

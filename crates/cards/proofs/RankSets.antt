@@ -23,7 +23,8 @@ set_bit : (x : ℕ) → x < 2 → (x ≡ 1) ↔ IsTrue (x == 1)
 set_bit x h = grind (arith, nat_tests)
 
 -- a bit of a suit's thirteen is 1 exactly if the hand has the rank
-pub rank_bit : (mask first rank : ℕ) (hand : List Bool) (suit : Suit) → mask < 2 ^ 52 → cards_of_mask mask ≡ hand → first ≡ 13 * suit_number suit → rank < 13
+pub rank_bit : (mask first rank : ℕ) (hand : List Bool) (suit : Suit) → mask < 2 ^ 52 → cards_of_mask mask ≡ hand
+    → first ≡ 13 * suit_number suit → rank < 13
     → (bit_at (bit_and (mask / 2 ^ first) 0x1FFF) rank ≡ 1) ↔ IsTrue (has_rank hand suit rank)
 rank_bit mask first rank hand suit h view same below =
     let one : bit_at (bit_and (mask / 2 ^ first) 0x1FFF) rank ≡ bit_at mask (first + rank) =

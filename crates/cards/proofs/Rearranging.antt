@@ -1,13 +1,15 @@
 -- Two lists are rearrangements of each other exactly if one is a permutation of the other, and exactly if each number
 -- stands as often in both.
-use Rattle.std.proofs.Common.{◌≡◌, ℕ, ◌+◌, ◌<◌, ◌==◌, ◌&&◌, ◌||◌, ◌↔◌, Bool, true, false, cond, List, [], ◌∷◌, ◌++◌, map, refl, sym, ◌∙◌, ap, arith, subst, inl, inr, ◌⊎◌}
+use Rattle.std.proofs.Common.{◌≡◌, ℕ, ◌+◌, ◌<◌, ◌==◌, ◌&&◌, ◌||◌, ◌↔◌, Bool, true, false, cond, List, [], ◌∷◌, ◌++◌}
+use Rattle.std.proofs.Common.{map, refl, sym, ◌∙◌, ap, arith, subst, inl, inr, ◌⊎◌}
 use Rattle.std.specs.Prelude.{IsTrue}
 use Rattle.std.specs.List.{count_by, flat_map, list_all, list_any}
 use Rattle.std.specs.List.Sorted.{IsPermutation}
 use Rattle.std.proofs.lemmas.Bool.{cases_lt}
 use Rattle.std.proofs.lemmas.Bool.Decides.{nat_tests}
 use Rattle.std.proofs.lemmas.List.Sums.{sum_by-cons, sum_by-append}
-use Rattle.std.proofs.lemmas.List.Sorted.{IsPermutation-refl, IsPermutation-sym, IsPermutation-trans, IsPermutation-cons, IsPermutation-remove, sum_by-IsPermutation}
+use Rattle.std.proofs.lemmas.List.Sorted.{IsPermutation-refl, IsPermutation-sym, IsPermutation-trans}
+use Rattle.std.proofs.lemmas.List.Sorted.{IsPermutation-cons, IsPermutation-remove, sum_by-IsPermutation}
 use Rattle.std.proofs.lemmas.Bool.{false≢true}
 use Rattle.std.proofs.lemmas.List.Folds.{list_any-append}
 use Rattle.cards.specs.Hands.{put_anywhere, orders_of, is_same, is_rearrangement}
@@ -51,12 +53,14 @@ any_mapped : (p : List ℕ → Bool) (f : List ℕ → List ℕ) (xss : List (Li
 any_mapped p f [] = refl
 any_mapped p f (xs ∷ xss) = ap (λ b. p (f xs) || b) (any_mapped p f xss)
 
-any_of_lists : (p : List ℕ → Bool) (f : List ℕ → List (List ℕ)) (xss : List (List ℕ)) → list_any p (flat_map f xss) ≡ list_any (λ zs. list_any p (f zs)) xss
+any_of_lists : (p : List ℕ → Bool) (f : List ℕ → List (List ℕ)) (xss : List (List ℕ))
+    → list_any p (flat_map f xss) ≡ list_any (λ zs. list_any p (f zs)) xss
 any_of_lists p f [] = refl
 any_of_lists p f (xs ∷ xss) = list_any-append p (f xs) (flat_map f xss) ∙ ap (λ b. list_any p (f xs) || b) (any_of_lists p f xss)
 
 -- what passes a test among the lists with x put somewhere has x and the list's numbers
-one_put : (x : ℕ) (ys : List ℕ) (p : List ℕ → Bool) (Q : Type 0) → ((zs : List ℕ) → IsPermutation (x ∷ ys) zs → p zs ≡ true → Q) → list_any p (put_anywhere x ys) ≡ true → Q
+one_put : (x : ℕ) (ys : List ℕ) (p : List ℕ → Bool) (Q : Type 0)
+    → ((zs : List ℕ) → IsPermutation (x ∷ ys) zs → p zs ≡ true → Q) → list_any p (put_anywhere x ys) ≡ true → Q
 one_put x [] p Q k h =
     elim (or_cases (p (x ∷ [])) false h) [
       | inl e ↦ k (x ∷ []) (IsPermutation-refl (x ∷ [])) e
@@ -67,12 +71,14 @@ one_put x (y ∷ ys) p Q k h =
       | inl e ↦ k (x ∷ y ∷ ys) (IsPermutation-refl (x ∷ y ∷ ys)) e
       | inr e ↦
           one_put x ys (λ zs. p (y ∷ zs)) Q
-          (λ zs moved f. k (y ∷ zs) (IsPermutation-trans (x ∷ y ∷ ys) (y ∷ x ∷ ys) (y ∷ zs) (exchanged x y ys) (IsPermutation-cons y (x ∷ ys) zs moved)) f)
+          (λ zs moved f. k (y ∷ zs) (IsPermutation-trans (x ∷ y ∷ ys) (y ∷ x ∷ ys) (y ∷ zs) (exchanged x y ys)
+          (IsPermutation-cons y (x ∷ ys) zs moved)) f)
           (sym (any_mapped p (λ zs. y ∷ zs) (put_anywhere x ys)) ∙ e)
     ]
 
 -- what passes a test among the orders has the list's numbers
-one_order : (xs : List ℕ) (p : List ℕ → Bool) (Q : Type 0) → ((zs : List ℕ) → IsPermutation xs zs → p zs ≡ true → Q) → list_any p (orders_of xs) ≡ true → Q
+one_order : (xs : List ℕ) (p : List ℕ → Bool) (Q : Type 0) → ((zs : List ℕ) → IsPermutation xs zs → p zs ≡ true → Q)
+    → list_any p (orders_of xs) ≡ true → Q
 one_order [] p Q k h =
     elim (or_cases (p []) false h) [
       | inl e ↦ k [] (IsPermutation-refl []) e
@@ -88,7 +94,8 @@ first_place x [] p h = rw h refl
 first_place x (y ∷ ys) p h = rw h refl
 
 -- a list that has x somewhere, with x taken to the front; put back somewhere it is the list
-taken : (x : ℕ) (ys : List ℕ) → 0 < times x ys → (rest : List ℕ) × IsPermutation ys (x ∷ rest) × ((p : List ℕ → Bool) → p ys ≡ true → list_any p (put_anywhere x rest) ≡ true)
+taken : (x : ℕ) (ys : List ℕ) → 0 < times x ys → (rest : List ℕ) × IsPermutation ys (x ∷ rest)
+    × ((p : List ℕ → Bool) → p ys ≡ true → list_any p (put_anywhere x rest) ≡ true)
 taken x [] h = absurd (omega arith)
 taken x (y ∷ ys) h =
     elim (either (y == x)) [
@@ -127,7 +134,14 @@ order_from_times (x ∷ xs) ys same p h =
     let rest : List ℕ = found.0 in
     any_of_lists p (put_anywhere x) (orders_of xs)
     ∙ order_from_times xs rest (λ z.
-    omega (arith, same z, times-cons z x xs, times-cons z x rest, sum_by-IsPermutation (λ y. cond (y == z) 1 0) ys (x ∷ rest) found.1)) (λ zs. list_any p (put_anywhere x zs)) (found.2 p h)
+    omega (
+      arith,
+      same z,
+      times-cons z x xs,
+      times-cons z x rest,
+      sum_by-IsPermutation (λ y. cond (y == z) 1 0) ys (x ∷ rest) found.1,
+    )) (λ zs. list_any p (put_anywhere x zs))
+    (found.2 p h)
 
 pub times_from_permutation : (xs ys : List ℕ) → IsPermutation xs ys → (x : ℕ) → times x xs ≡ times x ys
 times_from_permutation xs ys h x = sym (sum_by-IsPermutation (λ y. cond (y == x) 1 0) xs ys h)
@@ -195,7 +209,8 @@ same_truth false true f g = g refl
 same_truth false false f g = refl
 
 -- a rearrangement by counting
-pub rearrangement_by_counts : (xs ys : List ℕ) → is_rearrangement xs ys ≡ list_all (λ x. count_by (λ y. y == x) xs == count_by (λ y. y == x) ys) (xs ++ ys)
+pub rearrangement_by_counts : (xs ys : List ℕ) → is_rearrangement xs ys ≡ list_all
+    (λ x. count_by (λ y. y == x) xs == count_by (λ y. y == x) ys) (xs ++ ys)
 rearrangement_by_counts xs ys =
     same_truth (is_rearrangement xs ys) (has_same_counts xs ys)
     (λ h. all_same xs ys (xs ++ ys) (times_from_permutation xs ys ((rearrangement_is_permutation xs ys).0 h)))

@@ -78,7 +78,8 @@ partition_kept to deal ok =
     }
 
 -- the mask of a seat where a hand has gone is the hand's
-mask_kept : (to from seat : Seat) (deal : List Seat) (mask : ℕ) → goes_to to from ≡ seat → mask ≡ seat_mask deal from → mask ≡ seat_mask (turned to deal) seat
+mask_kept : (to from seat : Seat) (deal : List Seat) (mask : ℕ) → goes_to to from ≡ seat → mask ≡ seat_mask deal from
+    → mask ≡ seat_mask (turned to deal) seat
 mask_kept to from seat deal mask goes is =
     is ∙ ap mask_l (sym (hand_kept to from deal)) ∙ ap (seat_mask (turned to deal)) goes
 

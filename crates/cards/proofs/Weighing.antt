@@ -1,5 +1,6 @@
 -- Weights in four masks, and what the cards of a mask weigh.
-use Rattle.std.proofs.Common.{◌≡◌, ℕ, zero, suc, ◌+◌, ◌*◌, ◌%◌, ◌^◌, ◌<◌, ◌≤◌, ◌==◌, ◌&&◌, All, Bool, true, false, cond, List, [], ◌∷◌, length, get_or, map, take, refl, sym, ◌∙◌, ap, arith, inl, inr}
+use Rattle.std.proofs.Common.{◌≡◌, ℕ, zero, suc, ◌+◌, ◌*◌, ◌%◌, ◌^◌, ◌<◌, ◌≤◌, ◌==◌, ◌&&◌, All, Bool, true, false}
+use Rattle.std.proofs.Common.{cond, List, [], ◌∷◌, length, get_or, map, take, refl, sym, ◌∙◌, ap, arith, inl, inr}
 use Rattle.std.specs.Int.{bit_at}
 use Rattle.std.specs.Int.RustNames.{bit_and, bit_or, count_ones}
 use Rattle.std.specs.List.{count_by, sum_by, range_with_len}
@@ -61,7 +62,16 @@ shown weights a b c d count light ea eb ec ed =
     let below : i < 52 = rw (length-map-range_with_len f 0 52) at h in
     let inside : i < length weights = omega (arith, count) in
     get_or-map-range_with_len f 0 52 i i 0 below (omega arith)
-    ∙ rw (ea, eb, ec, ed, read_bit weights 0 i inside, read_bit weights 1 i inside, read_bit weights 2 i inside, read_bit weights 3 i inside) (four_bits (get_or weights i 0) (light i inside)))
+    ∙ rw (
+      ea,
+      eb,
+      ec,
+      ed,
+      read_bit weights 0 i inside,
+      read_bit weights 1 i inside,
+      read_bit weights 2 i inside,
+      read_bit weights 3 i inside,
+    ) (four_bits (get_or weights i 0) (light i inside)))
 
 pub each_light : (weights : List ℕ) → All (λ w. w < 16) weights → (i : ℕ) → i < length weights → get_or weights i 0 < 16
 each_light weights light i inside = All-get_or (λ w. w < 16) weights i 0 inside light
@@ -70,7 +80,13 @@ each_light weights light i inside = All-get_or (λ w. w < 16) weights i 0 inside
 
 none_above : (a b c d i : ℕ) → IsWeightMasks a b c d → 52 ≤ i → weight_in_masks a b c d i ≡ 0
 none_above a b c d i ok above =
-    omega (arith, bit_at_above a 52 i ok.ones_below above, bit_at_above b 52 i ok.twos_below above, bit_at_above c 52 i ok.fours_below above, bit_at_above d 52 i ok.eights_below above)
+    omega (
+      arith,
+      bit_at_above a 52 i ok.ones_below above,
+      bit_at_above b 52 i ok.twos_below above,
+      bit_at_above c 52 i ok.fours_below above,
+      bit_at_above d 52 i ok.eights_below above,
+    )
 
 read_weight : (a b c d i : ℕ) → IsWeightMasks a b c d → get_or (weights_of_masks a b c d) i 0 ≡ weight_in_masks a b c d i
 unfolding weights_of_masks pack
@@ -123,12 +139,22 @@ pub weighed_by_masks : (mask a b c d : ℕ) → mask < 2 ^ 52 → IsWeightMasks 
     → under mask a + 2 * under mask b + 4 * under mask c + 8 * under mask d ≡ weighed (weights_of_masks a b c d) (cards_of_mask mask)
 weighed_by_masks mask a b c d h ok =
     let hand : List Bool = cards_of_mask mask in
-    rw (cards_under mask a h ok.ones_below, cards_under mask b h ok.twos_below, cards_under mask c h ok.fours_below, cards_under mask d h ok.eights_below)
-    (counts (λ i. (bit_at a i == 1) && holds_card hand i) (λ i. (bit_at b i == 1) && holds_card hand i) (λ i. (bit_at c i == 1) && holds_card hand i) (λ i. (bit_at d i == 1) && holds_card hand i) pack
+    rw (
+      cards_under mask a h ok.ones_below,
+      cards_under mask b h ok.twos_below,
+      cards_under mask c h ok.fours_below,
+      cards_under mask d h ok.eights_below,
+    )
+    (counts (λ i. (bit_at a i == 1) && holds_card hand i) (λ i. (bit_at b i == 1) && holds_card hand i)
+    (λ i. (bit_at c i == 1) && holds_card hand i) (λ i. (bit_at d i == 1) && holds_card hand i) pack
     ∙ sum_by_same
-    (λ i. cond ((bit_at a i == 1) && holds_card hand i) 1 0 + 2 * cond ((bit_at b i == 1) && holds_card hand i) 1 0 + 4 * cond ((bit_at c i == 1) && holds_card hand i) 1 0 + 8 * cond ((bit_at d i == 1) && holds_card hand i) 1 0)
+    (λ i. cond ((bit_at a i == 1) && holds_card hand i) 1 0 + 2 * cond ((bit_at b i == 1) && holds_card hand i) 1 0
+    + 4 * cond ((bit_at c i == 1) && holds_card hand i) 1 0 + 8 * cond ((bit_at d i == 1) && holds_card hand i) 1
+    0)
     (λ i. cond (holds_card hand i) (get_or (weights_of_masks a b c d) i 0) 0)
-    (λ i. one_weight (holds_card hand i) (bit_at a i) (bit_at b i) (bit_at c i) (bit_at d i) (bit_at-lt a i) (bit_at-lt b i) (bit_at-lt c i) (bit_at-lt d i) ∙ ap (λ w. cond (holds_card hand i) w 0) (sym (read_weight a b c d i ok))) pack)
+    (λ i. one_weight (holds_card hand i) (bit_at a i) (bit_at b i) (bit_at c i) (bit_at d i) (bit_at-lt a i)
+    (bit_at-lt b i) (bit_at-lt c i) (bit_at-lt d i) ∙ ap (λ w. cond (holds_card hand i) w 0)
+    (sym (read_weight a b c d i ok))) pack)
 
 -- ---- bounds
 
@@ -142,6 +168,13 @@ under-le mask m h below =
       length-range_with_len 0 52,
     )
 
-pub weighed-le : (mask a b c d : ℕ) → mask < 2 ^ 52 → IsWeightMasks a b c d → under mask a + 2 * under mask b + 4 * under mask c + 8 * under mask d ≤ 780
+pub weighed-le : (mask a b c d : ℕ) → mask < 2 ^ 52 → IsWeightMasks a b c d
+    → under mask a + 2 * under mask b + 4 * under mask c + 8 * under mask d ≤ 780
 weighed-le mask a b c d h ok =
-    omega (arith, under-le mask a h ok.ones_below, under-le mask b h ok.twos_below, under-le mask c h ok.fours_below, under-le mask d h ok.eights_below)
+    omega (
+      arith,
+      under-le mask a h ok.ones_below,
+      under-le mask b h ok.twos_below,
+      under-le mask c h ok.fours_below,
+      under-le mask d h ok.eights_below,
+    )

@@ -1,5 +1,6 @@
 -- A sum of weights over the cards of a set is so many counts under the masks of the four honours.
-use Rattle.std.proofs.Common.{◌≡◌, ℕ, zero, suc, ◌+◌, ◌*◌, ◌%◌, ◌^◌, ◌<◌, ◌≤◌, ◌≢◌, ◌==◌, ◌&&◌, Bool, true, false, cond, List, [], ◌∷◌, length, get_or, map, sum, refl, sym, ◌∙◌, ap, arith}
+use Rattle.std.proofs.Common.{◌≡◌, ℕ, zero, suc, ◌+◌, ◌*◌, ◌%◌, ◌^◌, ◌<◌, ◌≤◌, ◌≢◌, ◌==◌, ◌&&◌, Bool, true, false}
+use Rattle.std.proofs.Common.{cond, List, [], ◌∷◌, length, get_or, map, sum, refl, sym, ◌∙◌, ap, arith}
 use Rattle.std.specs.Int.RustNames.{bit_and, count_ones}
 use Rattle.std.specs.List.{count_by, sum_by}
 use Rattle.std.proofs.lemmas.Bool.Decides.{nat_tests}
@@ -29,11 +30,14 @@ no_weight : (w : List ℕ) (r : ℕ) (b : Bool) → length w ≡ 4 → 4 ≤ r �
 no_weight w r true four h = get_or_past w r 0 (omega (arith, four))
 no_weight w r false four h = refl
 
-no_honour : (w : List ℕ) (r : ℕ) (b : Bool) → 4 ≤ r → 0 ≡ weighted w (cond ((r == 0) && b) 1 0) (cond ((r == 1) && b) 1 0) (cond ((r == 2) && b) 1 0) (cond ((r == 3) && b) 1 0)
+no_honour : (w : List ℕ) (r : ℕ) (b : Bool) → 4 ≤ r → 0 ≡ weighted w (cond ((r == 0) && b) 1 0)
+    (cond ((r == 1) && b) 1 0) (cond ((r == 2) && b) 1 0) (cond ((r == 3) && b) 1 0)
 no_honour w r b h = rw (not_same r 0 (omega arith), not_same r 1 (omega arith), not_same r 2 (omega arith), not_same r 3 (omega arith)) (omega arith)
 
 -- a card's weight, by its rank
-by_rank : (w : List ℕ) (r : ℕ) (b : Bool) → length w ≡ 4 → cond b (get_or w r 0) 0 ≡ weighted w (cond ((r == 0) && b) 1 0) (cond ((r == 1) && b) 1 0) (cond ((r == 2) && b) 1 0) (cond ((r == 3) && b) 1 0)
+by_rank : (w : List ℕ) (r : ℕ) (b : Bool) → length w ≡ 4
+    → cond b (get_or w r 0) 0 ≡ weighted w (cond ((r == 0) && b) 1 0) (cond ((r == 1) && b) 1 0)
+    (cond ((r == 2) && b) 1 0) (cond ((r == 3) && b) 1 0)
 by_rank w zero true four = omega arith
 by_rank w zero false four = omega arith
 by_rank w (suc zero) true four = omega arith
@@ -42,7 +46,8 @@ by_rank w (suc (suc zero)) true four = omega arith
 by_rank w (suc (suc zero)) false four = omega arith
 by_rank w (suc (suc (suc zero))) true four = omega arith
 by_rank w (suc (suc (suc zero))) false four = omega arith
-by_rank w (suc (suc (suc (suc r)))) b four = no_weight w (suc (suc (suc (suc r)))) b four (omega arith) ∙ no_honour w (suc (suc (suc (suc r)))) b (omega arith)
+by_rank w (suc (suc (suc (suc r)))) b four = no_weight w (suc (suc (suc (suc r)))) b four (omega arith)
+    ∙ no_honour w (suc (suc (suc (suc r)))) b (omega arith)
 
 weighted_more : (w : List ℕ) (a k q j a' k' q' j' : ℕ) → weighted w a k q j + weighted w a' k' q' j' ≡ weighted w (a + a') (k + k') (q + q') (j + j')
 weighted_more w a k q j a' k' q' j' = omega arith
@@ -57,20 +62,31 @@ sum_by_ranks w b [] four = omega arith
 sum_by_ranks w b (x ∷ xs) four =
     let here = by_rank w (x % 13) (b x) four in
     let more = sum_by_ranks w b xs four in
-    let all = weighted_more w (cond ((x % 13 == 0) && b x) 1 0) (cond ((x % 13 == 1) && b x) 1 0) (cond ((x % 13 == 2) && b x) 1 0) (cond ((x % 13 == 3) && b x) 1 0) (of_rank 0 b xs) (of_rank 1 b xs) (of_rank 2 b xs) (of_rank 3 b xs) in
+    let all = weighted_more w (cond ((x % 13 == 0) && b x) 1 0) (cond ((x % 13 == 1) && b x) 1 0)
+    (cond ((x % 13 == 2) && b x) 1 0) (cond ((x % 13 == 3) && b x) 1 0) (of_rank 0 b xs) (of_rank 1 b xs)
+    (of_rank 2 b xs) (of_rank 3 b xs) in
     sum_by-cons (λ c. cond (b c) (get_or w (c % 13) 0) 0) x xs
     ∙ ap (λ n. n + sum_by (λ c. cond (b c) (get_or w (c % 13) 0) 0) xs) here
-    ∙ ap (λ n. weighted w (cond ((x % 13 == 0) && b x) 1 0) (cond ((x % 13 == 1) && b x) 1 0) (cond ((x % 13 == 2) && b x) 1 0) (cond ((x % 13 == 3) && b x) 1 0) + n) more
+    ∙ ap (λ n. weighted w (cond ((x % 13 == 0) && b x) 1 0) (cond ((x % 13 == 1) && b x) 1 0)
+    (cond ((x % 13 == 2) && b x) 1 0) (cond ((x % 13 == 3) && b x) 1 0) + n) more
     ∙ all
-    ∙ rw (sum_by-cons (λ c. cond (is_of_rank 0 c && b c) 1 0) x xs, sum_by-cons (λ c. cond (is_of_rank 1 c && b c) 1 0) x xs, sum_by-cons (λ c. cond (is_of_rank 2 c && b c) 1 0) x xs, sum_by-cons (λ c. cond (is_of_rank 3 c && b c) 1 0) x xs) refl
+    ∙ rw (
+      sum_by-cons (λ c. cond (is_of_rank 0 c && b c) 1 0) x xs,
+      sum_by-cons (λ c. cond (is_of_rank 1 c && b c) 1 0) x xs,
+      sum_by-cons (λ c. cond (is_of_rank 2 c && b c) 1 0) x xs,
+      sum_by-cons (λ c. cond (is_of_rank 3 c && b c) 1 0) x xs,
+    ) refl
 
-rank_masks : (0x8004002001 ≡ mask_l (map (is_of_rank 0) pack)) × (0x10008004002 ≡ mask_l (map (is_of_rank 1) pack)) × (0x20010008004 ≡ mask_l (map (is_of_rank 2) pack)) × (0x40020010008 ≡ mask_l (map (is_of_rank 3) pack))
+rank_masks : (0x8004002001 ≡ mask_l (map (is_of_rank 0) pack)) × (0x10008004002 ≡ mask_l (map (is_of_rank 1) pack))
+    × (0x20010008004 ≡ mask_l (map (is_of_rank 2) pack)) × (0x40020010008 ≡ mask_l (map (is_of_rank 3) pack))
 unfolding pack
 rank_masks = (refl, refl, refl, refl)
 
 -- the weight of a mask's cards
 pub weight_by_masks : (w : List ℕ) (mask : ℕ) → mask < 2 ^ 52 → length w ≡ 4
-    → weighted w (count_ones (bit_and mask 0x8004002001)) (count_ones (bit_and mask 0x10008004002)) (count_ones (bit_and mask 0x20010008004)) (count_ones (bit_and mask 0x40020010008)) ≡ weight_of w (cards_of_mask mask)
+    → weighted w (count_ones (bit_and mask 0x8004002001)) (count_ones (bit_and mask 0x10008004002))
+    (count_ones (bit_and mask 0x20010008004)) (count_ones (bit_and mask 0x40020010008)) ≡ weight_of w
+    (cards_of_mask mask)
 weight_by_masks w mask h four =
     rw (
       ones_of mask 0x8004002001 (is_of_rank 0) h rank_masks.0,
@@ -82,7 +98,8 @@ weight_by_masks w mask h four =
 -- the same, with the weights as they are read
 pub weight_as_read : (w : List ℕ) (mask a k q j : ℕ) → mask < 2 ^ 52 → length w ≡ 4
     → a ≡ get_or w 0 0 → k ≡ get_or w 1 0 → q ≡ get_or w 2 0 → j ≡ get_or w 3 0
-    → a * count_ones (bit_and mask 0x8004002001) + k * count_ones (bit_and mask 0x10008004002) + q * count_ones (bit_and mask 0x20010008004) + j * count_ones (bit_and mask 0x40020010008) ≡ weight_of w (cards_of_mask mask)
+    → a * count_ones (bit_and mask 0x8004002001) + k * count_ones (bit_and mask 0x10008004002) + q * count_ones
+    (bit_and mask 0x20010008004) + j * count_ones (bit_and mask 0x40020010008) ≡ weight_of w (cards_of_mask mask)
 weight_as_read w mask a k q j h four a_is k_is q_is j_is = rw (a_is, k_is, q_is, j_is) (weight_by_masks w mask h four)
 
 -- ---- bounds

@@ -1,6 +1,7 @@
 -- What else is counted in a hand: losers, measures, honours, its longest and its shortest suit, and
 -- the suits that it stops.
-use Rattle.std.specs.Prelude.{ℕ, ◌+◌, ◌*◌, nat_le, min, max, not, ◌&&◌, ◌||◌, Bool, false, List, [], ◌∷◌, count_by, slice_index_or, unwrap_or, option_map}
+use Rattle.std.specs.Prelude.{ℕ, ◌+◌, ◌*◌, nat_le, min, max, not, ◌&&◌, ◌||◌, Bool, false, List, [], ◌∷◌, count_by}
+use Rattle.std.specs.Prelude.{slice_index_or, unwrap_or, option_map}
 use Rattle.std.specs.List.{range_with_len}
 use Rattle.cards.specs.declared.suit.Suit.{Suit}
 use Rattle.cards.specs.declared.suit.Suit.TheVariants.{Spades, Hearts, Diamonds, Clubs}

@@ -1,6 +1,7 @@
 -- Cards that are fixed at seats before the deal, and the deal of all others around them. A list of
 -- 52 tells of each card the seat that it is fixed at; None is a free card.
-use Rattle.std.specs.Prelude.{◌≡◌, ℕ, ◌+◌, ◌-◌, ◌≤◌, ◌==◌, ltb, Bool, true, false, List, length, map, replicate, count_by, take, slice_index_or, Option, Some, None, unwrap_or, if◌then◌else◌}
+use Rattle.std.specs.Prelude.{◌≡◌, ℕ, ◌+◌, ◌-◌, ◌≤◌, ◌==◌, ltb, Bool, true, false, List, length, map, replicate}
+use Rattle.std.specs.Prelude.{count_by, take, slice_index_or, Option, Some, None, unwrap_or, if◌then◌else◌}
 use Rattle.std.specs.List.{range_with_len}
 use Rattle.lcg48.specs.Sequence.{state_after}
 use Rattle.cards.specs.declared.seat.Seat.{Seat}

@@ -1,5 +1,6 @@
 -- What words without a fault ask for.
-use Rattle.std.proofs.Common.{◌≡◌, ◌∙◌, Bool, true, false, List, [], ◌∷◌, Option, Some, None, refl, sym, ap, subst, inl, inr, codes, option_map, if◌then◌else◌}
+use Rattle.std.proofs.Common.{◌≡◌, ◌∙◌, Bool, true, false, List, [], ◌∷◌, Option, Some, None, refl, sym, ap, subst}
+use Rattle.std.proofs.Common.{inl, inr, codes, option_map, if◌then◌else◌}
 use Rattle.std.specs.Prelude.{IsSome, Box}
 use Rattle.std.specs.Borrow.{Bor}
 use Rattle.std.specs.Box.{box_value}
@@ -11,13 +12,19 @@ use Rattle.clap.specs.Walk.{Row, Text, rows_after}
 use Rattle.clap.specs.Words.{found_of, kind_of, rows_of, subcommand_name_of}
 use Rattle.clap.specs.declared.error.Error.{Error}
 use Rattle.clap.specs.declared.error.kind.ErrorKind.{ErrorKind}
-use Rattle.clap.specs.declared.error.kind.ErrorKind.TheVariants.{ArgumentConflict, InvalidValue, MissingRequiredArgument, OutOfMemory, ValueValidation}
+use Rattle.clap.specs.declared.error.kind.ErrorKind.TheVariants.{ArgumentConflict, InvalidValue}
+use Rattle.clap.specs.declared.error.kind.ErrorKind.TheVariants.{MissingRequiredArgument, OutOfMemory}
+use Rattle.clap.specs.declared.error.kind.ErrorKind.TheVariants.{ValueValidation}
 use Rattle.clap.specs.declared.parser.matches.ArgMatches.{ArgMatches}
 use Rattle.clap.specs.declared.parser.matches.ArgMatches.TheViews.{out-ArgMatches, out-SubCommand}
 use Rattle.clap.specs.declared.parser.matches.SubCommand.{SubCommand}
 use Rattle.command_line.specs.Commands.{deals}
-use Rattle.command_line.specs.CommandLine.{asked, asks_page, called, called_in, extra_kinds, further_kinds, has_bad_workers, has_extra, has_unknown, is_no_lesson, kinds_by, kinds_for, lacks_option, lessons_kinds, lessons_wish, made_by, make_kinds, missing_kinds, read_kinds, search_in, show_kinds, show_wish, subcommand_named, unless_fault, wish_by, wish_in}
-use Rattle.request_types.specs.Requests.{Wish, conditions}
+use Rattle.command_line.specs.CommandLine.{asked, asks_page, called, called_in, extra_kinds, further_kinds}
+use Rattle.command_line.specs.CommandLine.{has_bad_workers, has_extra, has_unknown, is_no_lesson, kinds_by, kinds_for}
+use Rattle.command_line.specs.CommandLine.{lacks_option, lessons_kinds, lessons_wish, made_by, make_kinds}
+use Rattle.command_line.specs.CommandLine.{missing_kinds, read_kinds, search_in, show_kinds, show_wish}
+use Rattle.command_line.specs.CommandLine.{subcommand_named, unless_fault, wish_by, wish_in}
+use Rattle.requests.specs.Requests.{Wish, conditions}
 use Rattle.command_line.specs.declared.subcommands.Dealing.{Dealing}
 use Rattle.command_line.specs.declared.subcommands.Subcommand.{Subcommand}
 use Rattle.command_line.specs.declared.subcommands.Subcommand.TheVariants.{Deals, Lessons, Show}
@@ -48,13 +55,17 @@ is_simple : is_simple_and_free deals ≡ true
 is_simple = refl
 
 pub no_fault : (app : App) (words : List Text) → app ≡ deals → (is_simple_and_free app ≡ true → fault_of app words ≡ []) → fault_of deals words ≡ []
-no_fault app words is h = subst (λ (a : App). (is_simple_and_free a ≡ true → fault_of a words ≡ []) → fault_of deals words ≡ []) (sym is) (λ k. k is_simple) h
+no_fault app words is h = subst (λ (a : App). (is_simple_and_free a ≡ true → fault_of a words ≡ [])
+    → fault_of deals words ≡ []) (sym is) (λ k. k is_simple) h
 
-pub err_kind : (app : App) (words : List Text) (e : Error) → app ≡ deals → (is_simple_and_free app ≡ true → HasKind (fault_of app words) e) → asks_page words ≡ false → IsSome (asked words)
+pub err_kind : (app : App) (words : List Text) (e : Error) → app ≡ deals
+    → (is_simple_and_free app ≡ true → HasKind (fault_of app words) e) → asks_page words ≡ false
+    → IsSome (asked words)
     → kind_of e ≡ OutOfMemory
 unfolding asked
 err_kind app words e is h page some =
-    go (fault_of deals words) (subst (λ (a : App). (is_simple_and_free a ≡ true → HasKind (fault_of a words) e) → HasKind (fault_of deals words) e) (sym is) (λ k. k is_simple) h)
+    go (fault_of deals words) (subst (λ (a : App). (is_simple_and_free a ≡ true → HasKind (fault_of a words) e)
+    → HasKind (fault_of deals words) e) (sym is) (λ k. k is_simple) h)
     (subst (λ (b : Bool). IsSome (if b then Some conditions else unless_fault (read_kinds words) (wish_in words))) page some)
   where
     go : (ks : Kinds) → HasKind ks e → IsSome (unless_fault (or_else ks (further_kinds words)) (wish_in words)) → kind_of e ≡ OutOfMemory
@@ -68,12 +79,14 @@ pub record Met (sub : Option (Bor Text × Bor ArgMatches)) (name : Text) (rows :
   pub name_is : pair.0.now ≡ name
   pub rows_are : rows_of (found_of pair.1.now) ≡ rows
 
-name-rows : {Z : Type 0} (o : Option (Box SubCommand Z)) → option_map (λ b. (out-SubCommand (box_value b)).name.now) o ≡ option_map (λ p. p.0) (subcommand_rows o)
+name-rows : {Z : Type 0} (o : Option (Box SubCommand Z))
+    → option_map (λ b. (out-SubCommand (box_value b)).name.now) o ≡ option_map (λ p. p.0) (subcommand_rows o)
 name-rows None = refl
 name-rows (Some b) = refl
 
 met_by : (m : ArgMatches) (sub : Option (Bor Text × Bor ArgMatches)) (name : Text) (rows : List Row)
-    → option_map (λ q. q.0.now) sub ≡ subcommand_name_of m → option_map (λ q. rows_of (found_of q.1.now)) sub ≡ option_map (λ q. q.1) (subcommand_rows_of m)
+    → option_map (λ q. q.0.now) sub ≡ subcommand_name_of m
+    → option_map (λ q. rows_of (found_of q.1.now)) sub ≡ option_map (λ q. q.1) (subcommand_rows_of m)
     → subcommand_rows_of m ≡ Some (name, rows) → Met sub name rows
 met_by m sub name rows names all is = go sub refl
   where
@@ -84,11 +97,14 @@ met_by m sub name rows names all is = go sub refl
     go None e = let bad = rw e at names in absurd cc
     go (Some pair) e =
         let a : Some pair.0.now ≡ Some name = ap (option_map (λ q. q.0.now)) (sym e) ∙ names ∙ names_are in
-        let b : Some (rows_of (found_of pair.1.now)) ≡ Some rows = ap (option_map (λ q. rows_of (found_of q.1.now))) (sym e) ∙ all ∙ ap (option_map (λ p. p.1)) is in
+        let b : Some (rows_of (found_of pair.1.now)) ≡ Some rows =
+        ap (option_map (λ q. rows_of (found_of q.1.now))) (sym e) ∙ all ∙ ap (option_map (λ p. p.1)) is in
         record { pair = pair; is = e; name_is = cc; rows_are = cc }
 
-pub met : (app : App) (words : List Text) (m : ArgMatches) (sub : Option (Bor Text × Bor ArgMatches)) (name : Text) (rows : List Row) → app ≡ deals → HasMatchesOf app words m
-    → option_map (λ q. q.0.now) sub ≡ subcommand_name_of m → option_map (λ q. rows_of (found_of q.1.now)) sub ≡ option_map (λ q. q.1) (subcommand_rows_of m)
+pub met : (app : App) (words : List Text) (m : ArgMatches) (sub : Option (Bor Text × Bor ArgMatches)) (name : Text)
+    (rows : List Row) → app ≡ deals → HasMatchesOf app words m
+    → option_map (λ q. q.0.now) sub ≡ subcommand_name_of m
+    → option_map (λ q. rows_of (found_of q.1.now)) sub ≡ option_map (λ q. q.1) (subcommand_rows_of m)
     → subcommand_of deals words ≡ Some (name, rows) → Met sub name rows
 met app words m sub name rows is has names all named =
     let at = subst (λ (a : App). HasMatchesOf a words m) is has in
@@ -105,7 +121,8 @@ pub record IsRead (words : List Text) : Type 0 where
 abbrev Calls : List Text → Subcommand → List Row → Type 0
 Calls words c rows = called_in words ≡ Some (c, rows)
 
-by_wish : (words : List Text) (c : Subcommand) (rows : List Row) → IsRead words → Calls words c rows → asked words ≡ unless_fault (kinds_by c rows) (Some (wish_by c rows))
+by_wish : (words : List Text) (c : Subcommand) (rows : List Row) → IsRead words → Calls words c rows
+    → asked words ≡ unless_fault (kinds_by c rows) (Some (wish_by c rows))
 unfolding asked
 by_wish words c rows read is =
     let f = read.no_fault_is in
@@ -118,7 +135,8 @@ unfolding kinds_for
 by_kinds words c rows read is =
     let f = read.no_fault_is in
     ap (λ (b : Bool). if b then [] else read_kinds words) read.no_page
-    ∙ ap (λ (k : Kinds). or_else k (further_kinds words)) f ∙ ap (λ (o : Option (Subcommand × List Row)). option_map_or (λ p. kinds_by p.0 p.1) o []) is
+    ∙ ap (λ (k : Kinds). or_else k (further_kinds words)) f
+    ∙ ap (λ (o : Option (Subcommand × List Row)). option_map_or (λ p. kinds_by p.0 p.1) o []) is
 
 asks_make : (words : List Text) (d : Dealing) (rows : List Row) → IsRead words → Calls words (Deals d) rows → AsksMake words d rows
 asks_make words d rows f is = record {
@@ -167,7 +185,8 @@ asks_make words d rows f is = record {
     counted : {b : Bool} → has_bad_workers rows ≡ b → further ≡ (if b then ValueValidation ∷ [] else missing_kinds d (search_in rows) rows)
     counted {b} w = ap (λ (x : Bool). if x then ValueValidation ∷ [] else missing_kinds d (search_in rows) rows) w
 
-    ending : {b : Bool} → lacks_option d (search_in rows) rows ≡ b → missing_kinds d (search_in rows) rows ≡ (if b then MissingRequiredArgument ∷ [] else extra_kinds rows)
+    ending : {b : Bool} → lacks_option d (search_in rows) rows ≡ b
+        → missing_kinds d (search_in rows) rows ≡ (if b then MissingRequiredArgument ∷ [] else extra_kinds rows)
     ending {b} e = ap (λ (x : Bool). if x then MissingRequiredArgument ∷ [] else extra_kinds rows) e
 
     extra : {b : Bool} → has_extra rows ≡ b → extra_kinds rows ≡ (if b then ArgumentConflict ∷ [] else [])
@@ -219,7 +238,8 @@ pub record Chosen (words : List Text) (name : Text) (rows : List Row) : Type 0 w
 abbrev of_pair : List Text → Bor Text × Bor ArgMatches → Type 0
 of_pair words p = Chosen words p.0.now (rows_of (found_of p.1.now))
 
-chosen_by : (words : List Text) (name : Text) (rows : List Row) → IsRead words → subcommand_of deals words ≡ Some (name, rows) → Reads name rows → Chosen words name rows
+chosen_by : (words : List Text) (name : Text) (rows : List Row) → IsRead words
+    → subcommand_of deals words ≡ Some (name, rows) → Reads name rows → Chosen words name rows
 chosen_by words name rows f is reads = record {
   subcommand = reads.subcommand;
   named = reads.named;
@@ -232,35 +252,43 @@ chosen_by words name rows f is reads = record {
         ap (λ (o : Option (Text × List Row)). option_and_then called o) is
         ∙ ap (λ (o : Option Subcommand). option_map (λ named. (named, rows)) o) reads.named
 
-from_met : (words : List Text) (sub : Option (Bor Text × Bor ArgMatches)) (p : Bor Text × Bor ArgMatches) (name : Text) (rows : List Row) → sub ≡ Some p → Met sub name rows
+from_met : (words : List Text) (sub : Option (Bor Text × Bor ArgMatches)) (p : Bor Text × Bor ArgMatches)
+    (name : Text) (rows : List Row) → sub ≡ Some p → Met sub name rows
     → Chosen words name rows → of_pair words p
 from_met words sub p name rows is found h =
     let both : Some found.pair ≡ Some p = sym found.is ∙ is in
     let same : found.pair ≡ p = cc in
     let at : Chosen words found.pair.0.now (rows_of (found_of found.pair.1.now)) =
-    subst (λ (r : List Row). Chosen words found.pair.0.now r) (sym found.rows_are) (subst (λ (n : Text). Chosen words n rows) (sym found.name_is) h) in
+    subst (λ (r : List Row). Chosen words found.pair.0.now r) (sym found.rows_are)
+    (subst (λ (n : Text). Chosen words n rows) (sym found.name_is) h) in
     subst (of_pair words) same at
 
-pub chosen : (app : App) (words : List Text) (m : ArgMatches) (sub : Option (Bor Text × Bor ArgMatches)) (p : Bor Text × Bor ArgMatches) → app ≡ deals → HasMatchesOf app words m
+pub chosen : (app : App) (words : List Text) (m : ArgMatches) (sub : Option (Bor Text × Bor ArgMatches))
+    (p : Bor Text × Bor ArgMatches) → app ≡ deals → HasMatchesOf app words m
     → (is_simple_and_free app ≡ true → fault_of app words ≡ [])
-    → option_map (λ q. q.0.now) sub ≡ subcommand_name_of m → option_map (λ q. rows_of (found_of q.1.now)) sub ≡ option_map (λ q. q.1) (subcommand_rows_of m)
+    → option_map (λ q. q.0.now) sub ≡ subcommand_name_of m
+    → option_map (λ q. rows_of (found_of q.1.now)) sub ≡ option_map (λ q. q.1) (subcommand_rows_of m)
     → sub ≡ Some p → asks_page words ≡ false → Chosen words p.0.now (rows_of (found_of p.1.now))
 chosen app words m sub p is has none names rows sub_is page =
     let f = no_fault app words is none in
     let n = named words f in
-    from_met words sub p n.name n.rows sub_is (met app words m sub n.name n.rows is has names rows n.named) (chosen_by words n.name n.rows (record { no_page = page; no_fault_is = f }) n.named n.reads)
+    from_met words sub p n.name n.rows sub_is (met app words m sub n.name n.rows is has names rows n.named)
+    (chosen_by words n.name n.rows (record { no_page = page; no_fault_is = f }) n.named n.reads)
 
 -- the kind of an error is one of those that clap may give for the words
 has_first : (a b : Kinds) (e : Error) → HasKind a e → HasKind (or_else a b) e
 has_first [] b e h = elim h [ inl memory ↦ inl memory | inr bad ↦ absurd bad ]
 has_first (k ∷ ks) b e h = h
 
-pub error_kind : (app : App) (words : List Text) (e : Error) → app ≡ deals → (is_simple_and_free app ≡ true → HasKind (fault_of app words) e) → asks_page words ≡ false → HasKind (kinds_for words) e
+pub error_kind : (app : App) (words : List Text) (e : Error) → app ≡ deals
+    → (is_simple_and_free app ≡ true → HasKind (fault_of app words) e) → asks_page words ≡ false
+    → HasKind (kinds_for words) e
 unfolding kinds_for
 error_kind app words e is h page =
     subst (λ (b : Bool). HasKind (if b then [] else read_kinds words) e) (sym page)
     (has_first (fault_of deals words) (further_kinds words) e
-    (subst (λ (a : App). (is_simple_and_free a ≡ true → HasKind (fault_of a words) e) → HasKind (fault_of deals words) e) (sym is) (λ k. k is_simple) h))
+    (subst (λ (a : App). (is_simple_and_free a ≡ true → HasKind (fault_of a words) e)
+    → HasKind (fault_of deals words) e) (sym is) (λ k. k is_simple) h))
 
 -- ---- words that clap takes and that are refused
 
@@ -272,5 +300,6 @@ refused_asked words kind r some = let bad : false ≡ true = subst (λ (o : Opti
 
 -- ---- the subcommand that was found by its name
 
-pub same_subcommand : {found : Option Subcommand} {named : Option Subcommand} {a b : Subcommand} → named ≡ Some a → found ≡ named → found ≡ Some b → a ≡ b
+pub same_subcommand : {found : Option Subcommand} {named : Option Subcommand} {a b : Subcommand} → named ≡ Some a
+    → found ≡ named → found ≡ Some b → a ≡ b
 same_subcommand {found} {named} {a} {b} is same got = let both : Some a ≡ Some b = sym is ∙ sym same ∙ got in cc

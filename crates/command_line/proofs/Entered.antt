@@ -44,7 +44,8 @@ pub record Enters (a : App) (words : List Text) : Type 0 where
   pub entered_it : entered a (stop_after a.top.rules (names_of a) words) ≡ Some (rows_at sub rest)
   pub fault : level_fault sub [] nothing_held rest false [] ≡ []
 
-pub enters : (a : App) (words : List Text) → a.top.subcommand_required ≡ true → a.top.disable_help_subcommand ≡ false → built_fault a nothing_held words ≡ [] → Enters a words
+pub enters : (a : App) (words : List Text) → a.top.subcommand_required ≡ true → a.top.disable_help_subcommand ≡ false
+    → built_fault a nothing_held words ≡ [] → Enters a words
 enters a words required off f = go (stop_after a.top.rules (names_of a) words) refl
   where
     has : is_some (entered a (stop_after a.top.rules (names_of a) words)) ≡ true
@@ -58,7 +59,8 @@ enters a words required off f = go (stop_after a.top.rules (names_of a) words) r
         let stop = stop_after a.top.rules (names_of a) words in
         level_below a.top (names_of a) words (is_some (entered a stop)) (entered_fault a stop) f
 
-    at : (p : Text × List Text) → stop_after a.top.rules (names_of a) words ≡ Some p → (o : Option Shape) → find (λ s. answers_to p.0 (label_of s)) a.subs ≡ o → Enters a words
+    at : (p : Text × List Text) → stop_after a.top.rules (names_of a) words ≡ Some p → (o : Option Shape)
+        → find (λ s. answers_to p.0 (label_of s)) a.subs ≡ o → Enters a words
     at p e None g = let bad : false ≡ true = rw (e, g) at has in absurd cc
     at p e (Some s) g = record {
       sub = s;
@@ -66,7 +68,8 @@ enters a words required off f = go (stop_after a.top.rules (names_of a) words) r
       word = p.0;
       answers = found_passes (λ s. answers_to p.0 (label_of s)) a.subs s g;
       no_help =
-          let other = walk_other a.top (names_of a) off (walk_from nothing_held) words tt (or_none_first (walk_fault a.top (names_of a) (walk_from nothing_held) words) _ f) in
+          let other = walk_other a.top (names_of a) off (walk_from nothing_held) words tt
+          (or_none_first (walk_fault a.top (names_of a) (walk_from nothing_held) words) _ f) in
           subst IsOther e other;
       rest = p.1;
       entered_it = rw (e, g) refl;

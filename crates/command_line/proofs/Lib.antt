@@ -1,5 +1,6 @@
 pub mod Rows
 pub mod Walks
+pub mod WalkValues
 pub mod Plain
 pub mod Help
 pub mod Entered

@@ -17,19 +17,22 @@ number-none id rows e = ap (option_map (λ (u : Text). digits_value 10 (without_
 
 -- the getter of 32 bits
 pub read32 : {E : Type 0} (G : List ℕ → Result ℕ E → Type 0) (f : Found) (id : Text) (r : Option ℕ) → MayGive32 id (rows_of f)
-    → (one_text f id ≡ None → r ≡ None) → ((t : Text) → one_text f id ≡ Some t → ReadsOne G t r) → ((u : Text) (x : Result ℕ E) → G u x → ParsesUnsigned 32 10 u x)
+    → (one_text f id ≡ None → r ≡ None) → ((t : Text) → one_text f id ≡ Some t → ReadsOne G t r)
+    → ((u : Text) (x : Result ℕ E) → G u x → ParsesUnsigned 32 10 u x)
     → r ≡ number_in id (rows_of f)
 read32 {E} G f id r (inl none) empty reads only = empty (one_text-rows f id ∙ none) ∙ sym (number-none id (rows_of f) none)
 read32 {E} G f id r (inr v) empty reads only =
     let here : one_text f id ≡ Some (without_minus v.text) = one_text-rows f id ∙ v.read in
     let read = reads (without_minus v.text) here in
     let got = signed_reads E G 32 0 4294967295 v.text r read only (lit< tt) v.passed in
-    let is : got.0 ≡ digits_value 10 (without_leading_plus (without_minus v.text)) = (only (without_minus v.text) (Ok got.0) (subst (ReadsOne G (without_minus v.text)) got.1 read)).1 in
+    let is : got.0 ≡ digits_value 10 (without_leading_plus (without_minus v.text)) =
+    (only (without_minus v.text) (Ok got.0) (subst (ReadsOne G (without_minus v.text)) got.1 read)).1 in
     got.1 ∙ ap (λ (n : ℕ). Some n) is ∙ sym (number-some id (rows_of f) (without_minus v.text) v.read)
 
 -- the getter of 64 bits
 pub read64 : {E : Type 0} (G : List ℕ → Result ℕ E → Type 0) (f : Found) (id : Text) (r : Option ℕ) → MayGive64 id (rows_of f)
-    → (one_text f id ≡ None → r ≡ None) → ((t : Text) → one_text f id ≡ Some t → ReadsOne G t r) → ((u : Text) (x : Result ℕ E) → G u x → ParsesUnsigned 64 10 u x)
+    → (one_text f id ≡ None → r ≡ None) → ((t : Text) → one_text f id ≡ Some t → ReadsOne G t r)
+    → ((u : Text) (x : Result ℕ E) → G u x → ParsesUnsigned 64 10 u x)
     → r ≡ number_in id (rows_of f)
 read64 {E} G f id r (inl none) empty reads only = empty (one_text-rows f id ∙ none) ∙ sym (number-none id (rows_of f) none)
 read64 {E} G f id r (inr v) empty reads only = go r (reads v.text (one_text-rows f id ∙ v.read))

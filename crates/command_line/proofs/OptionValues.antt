@@ -18,7 +18,10 @@ use Rattle.command_line.specs.internal.Asking.{HasValues}
 use Rattle.command_line.specs.internal.Readings.{Gives32, GivesUpTo, HasValue, MakeValues, MayGive32, MayGive64, StreamValues}
 use Rattle.command_line.proofs.Entered.{IsSub}
 use Rattle.command_line.proofs.Plain.{plain_of}
-use Rattle.command_line.proofs.Walks.{IsIn, Passing, PlainRules, absent_value, given_value, level_checked, level_passing, passed_value, required_given}
+use Rattle.command_line.proofs.Walks.{IsIn, Passing, PlainRules, level_checked}
+use Rattle.command_line.proofs.WalkValues.{absent_value, given_value}
+use Rattle.command_line.proofs.Walks.{level_passing, required_given}
+use Rattle.command_line.proofs.WalkValues.{passed_value}
 
 abbrev first_shape : List Shape → Shape
 first_shape [] = new_shape []
@@ -99,18 +102,22 @@ may_have_value c rows a (inl own) pass = passed_value c rows a own pass
 may_have_value c rows a (inr none) pass = inl (absent_value c rows a.id none pass)
 
 may32 : (c : List Rule) (rows : List Row) (letter : Option ℕ) (id : Text) → MayHave c (rule32 letter id) → Passing c rows → MayGive32 id rows
-may32 c rows letter id has pass = elim (may_have_value c rows (rule32 letter id) has pass) [ inl none ↦ inl none | inr v ↦ inr (gives32 letter id rows v) ]
+may32 c rows letter id has pass = elim (may_have_value c rows (rule32 letter id) has pass)
+    [ inl none ↦ inl none | inr v ↦ inr (gives32 letter id rows v) ]
 
 may64 : (c : List Rule) (rows : List Row) (id : Text) → MayHave c (any64 id) → Passing c rows → MayGive64 id rows
-may64 c rows id has pass = elim (may_have_value c rows (any64 id) has pass) [ inl none ↦ inl none | inr v ↦ inr (gives_up_to 18446744073709551615 (lit≤ tt) id rows v) ]
+may64 c rows id has pass = elim (may_have_value c rows (any64 id) has pass)
+    [ inl none ↦ inl none | inr v ↦ inr (gives_up_to 18446744073709551615 (lit≤ tt) id rows v) ]
 
 -- a required option as built
 abbrev built_with : Option ℕ → ValueParser → Text → Rule
 built_with letter parser id = record (filled (required (option_rule id parser))) { short = letter }
 
 -- has a value
-required_value : (s : Shape) → PlainRules s.rules → s.subcommand_negates_reqs ≡ false → (letter : Option ℕ) (parser : ValueParser) (id : Text) → IsIn (built_with letter parser id) s.rules
-    → (words : List Text) → level_fault s [] nothing_held words false [] ≡ [] → HasValue (filled (option_rule id parser)) (rows_after s.rules [] words)
+required_value : (s : Shape) → PlainRules s.rules → s.subcommand_negates_reqs ≡ false
+    → (letter : Option ℕ) (parser : ValueParser) (id : Text) → IsIn (built_with letter parser id) s.rules
+    → (words : List Text) → level_fault s [] nothing_held words false [] ≡ []
+    → HasValue (filled (option_rule id parser)) (rows_after s.rules [] words)
 required_value s plain negates letter parser id is words f =
     let rule = built_with letter parser id in
     let rows = rows_after s.rules [] words in
@@ -124,7 +131,8 @@ seed_built = built_with (Some 115) u32_parser (codes "seed")
 
 -- ---- the subcommands with options
 
-stream_values : (words : List Text) → level_fault stream_built [] nothing_held words false [] ≡ [] → StreamValues (rows_after stream_built.rules [] words)
+stream_values : (words : List Text) → level_fault stream_built [] nothing_held words false [] ≡ []
+    → StreamValues (rows_after stream_built.rules [] words)
 stream_values words f =
     let value = required_value stream_built (plain_of stream_built.rules refl) refl in
     record {
@@ -168,13 +176,15 @@ abbrev ReadsBy : Shape → Type 0
 ReadsBy s = (word : Text) (rest : List Text) → answers_to word (label_of s) ≡ true → bytes_eq word (codes "help") ≡ false
     → level_fault s [] nothing_held rest false [] ≡ [] → Reads s.name (rows_after s.rules [] rest)
 
-deals_by : (s : Shape) (dealing : Dealing) → subcommand_named s.name ≡ Some (Deals dealing) → PlainRules s.rules → s.subcommand_negates_reqs ≡ false → IsIn seed_built s.rules
+deals_by : (s : Shape) (dealing : Dealing) → subcommand_named s.name ≡ Some (Deals dealing) → PlainRules s.rules
+    → s.subcommand_negates_reqs ≡ false → IsIn seed_built s.rules
     → Numbers s.rules → ReadsBy s
 deals_by s dealing is plain negates seed numbers word rest answers other f =
     record { subcommand = Deals dealing; named = is; values = deal_values s plain negates seed numbers rest f }
 
 -- one whose options have no numbers
-reads_no_number : (s : Shape) (subcommand : Subcommand) → subcommand_named s.name ≡ Some subcommand → ((rows : List Row) → HasValues subcommand rows) → ReadsBy s
+reads_no_number : (s : Shape) (subcommand : Subcommand) → subcommand_named s.name ≡ Some subcommand
+    → ((rows : List Row) → HasValues subcommand rows) → ReadsBy s
 reads_no_number s subcommand is none word rest answers other f = record { subcommand = subcommand; named = is; values = none _ }
 
 -- clap's `help` is no subcommand of words without a fault
@@ -231,4 +241,16 @@ help_reads word rest answers other f = absurd (no_help word answers other)
 
 -- in the order in which they stand
 pub each_reads : EachReads (built deals).subs
-each_reads = (make_reads, (find_reads, (count_reads, (pick_reads, (show_reads, (conditions_reads, (lessons_reads, (draw_reads, (stream_reads, (help_reads, tt))))))))))
+each_reads = (
+  make_reads,
+  (
+    find_reads,
+    (
+      count_reads,
+      (
+        pick_reads,
+        (show_reads, (conditions_reads, (lessons_reads, (draw_reads, (stream_reads, (help_reads, tt)))))),
+      ),
+    ),
+  ),
+)

@@ -43,7 +43,8 @@ none_at : (test : Rule → Bool) (c : List Rule) → list_any test c ≡ false �
 none_at test [] h a is = absurd is
 none_at test (x ∷ c) h a is = go (test x) refl (λ rest more. none_at test c rest a more) h is
   where
-    go : (b : Bool) → test x ≡ b → (list_any test c ≡ false → IsIn a c → test a ≡ false) → list_any test (x ∷ c) ≡ false → IsIn a (x ∷ c) → test a ≡ false
+    go : (b : Bool) → test x ≡ b → (list_any test c ≡ false → IsIn a c → test a ≡ false)
+        → list_any test (x ∷ c) ≡ false → IsIn a (x ∷ c) → test a ≡ false
     go true e rec h is = let bad : true ≡ false = rw e at h in absurd cc
     go false e rec h (inl same) = rw same e
     go false e rec h (inr more) = rec (rw e at h) more

@@ -1,6 +1,8 @@
 -- The rows of a level of a parse that finds no fault: each has values, and they passed the parser of
 -- its argument.
-use Rattle.std.proofs.Common.{◌≡◌, ◌≢◌, ◌⊎◌, ◌∙◌, ◌<◌, ◌&&◌, ◌++◌, ℕ, Bool, true, false, not, zero, suc, List, [], ◌∷◌, length, drop, Option, Some, None, cond, nat_lt, refl, sym, ap, subst, inl, inr, arith, find, fold, length-append, eqb-true}
+use Rattle.std.proofs.Common.{◌≡◌, ◌⊎◌, ◌∙◌, ◌<◌, ◌&&◌, ◌++◌, ℕ, Bool, true, false, not, zero, suc, List, []}
+use Rattle.std.proofs.Common.{◌∷◌, length, drop, Option, Some, None, cond, nat_lt, refl, sym, ap, subst, inl, inr}
+use Rattle.std.proofs.Common.{arith, find, fold, length-append, eqb-true}
 use Rattle.std.specs.Prelude.{encode_utf8, slice_get}
 use Rattle.std.specs.List.{list_any}
 use Rattle.std.specs.Option.{option_map_or}
@@ -9,13 +11,23 @@ use Rattle.std.proofs.lemmas.Slice.Eq.{bytes_eq-Decides}
 use Rattle.clap.specs.Lexer.{long_of, short_of}
 use Rattle.clap.specs.Facts.{parser_of_value, unwrap_or_range}
 use Rattle.clap.specs.Kinds.{Kinds, check_kinds, or_else, request_kinds, value_kinds, values_kinds}
-use Rattle.clap.specs.Values.{is_request, read_as}
-use Rattle.clap.specs.Walk.{Held, Names, Outcome, Row, Rule, Step, Text, Waiting, Walk, action_of, after_flag, after_step, arg_by_id, arg_by_index, arg_by_long, arg_by_short, bundle, bundle_met, bundle_step, default_rows, done, flag_met, has_row, idle, is_empty, is_pending, long_met, long_or_other, row_text, next, nothing_held, one_of, option, option_met, option_word, plain, plain_word, positional, reacted, reading_by, refused, rows_after, settled, settled_rows, short_met, short_or_plain, subcommand, subcommand_met, subcommand_or_other, takes_several, takes_values, to_positional, trailing, used, used_as, value, values_or_missing, waits, walk, walk_from, walked, walked_from, with_default, with_values, without, word_met}
+use Rattle.clap.specs.Values.{is_request}
+use Rattle.clap.specs.Walk.{Held, Names, Outcome, Row, Rule, Step, Text, Waiting, Walk, action_of, after_flag}
+use Rattle.clap.specs.Walk.{after_step, arg_by_id, arg_by_index, arg_by_long, arg_by_short, bundle, bundle_met}
+use Rattle.clap.specs.Walk.{bundle_step, default_rows, done, flag_met, has_row, idle, is_empty, is_pending, long_met}
+use Rattle.clap.specs.Walk.{long_or_other, next, nothing_held, option, option_met, option_word}
+use Rattle.clap.specs.Walk.{plain, plain_word, positional, reacted, reading_by, refused, rows_after, settled}
+use Rattle.clap.specs.Walk.{settled_rows, short_met, short_or_plain, subcommand, subcommand_met, subcommand_or_other}
+use Rattle.clap.specs.Walk.{takes_several, takes_values, to_positional, trailing, used, used_as, value}
+use Rattle.clap.specs.Walk.{values_or_missing, waits, walk, walk_from, walked, walked_from, with_default, with_values}
+use Rattle.clap.specs.Walk.{without, word_met}
 use Rattle.clap.specs.Simple.{Shape}
 use Rattle.clap.specs.Takes.{is_given}
-use Rattle.clap.specs.ValueTests.{accepts}
-use Rattle.clap.specs.Faults.{action_fault, check_fault, bundle_fault, bundle_step_fault, default_fault, defaults_fault, flag_word_fault, flags_fault, given_default_fault, level_fault, long_fault, option_fault, other_fault, positional_fault, react_fault, settle_fault, short_fault, step_fault, stray_fault, turn_fault, use_fault, values_fault, walk_fault, word_fault}
-use Rattle.command_line.specs.internal.Readings.{HasValue}
+use Rattle.clap.specs.Faults.{action_fault, check_fault, bundle_fault, bundle_step_fault, default_fault}
+use Rattle.clap.specs.Faults.{defaults_fault, flag_word_fault, flags_fault, given_default_fault, level_fault}
+use Rattle.clap.specs.Faults.{long_fault, option_fault, other_fault, positional_fault, react_fault, settle_fault}
+use Rattle.clap.specs.Faults.{short_fault, step_fault, stray_fault, turn_fault, use_fault, values_fault, walk_fault}
+use Rattle.clap.specs.Faults.{word_fault}
 use Rattle.clap.specs.declared.builder.ArgAction.{ArgAction}
 use Rattle.clap.specs.declared.builder.ArgAction.TheVariants.{Append, Set, SetTrue}
 use Rattle.clap.specs.declared.builder.ValueParser.{ValueParser}
@@ -33,7 +45,8 @@ or_none_second (k ∷ ks) b h = cc
 both_none : (a b : Kinds) → a ≡ [] → b ≡ [] → or_else a b ≡ []
 both_none a b x y = rw x y
 
-values_kinds-append : (i : Bool) (p : ValueParser) (xs ys : List Text) → values_kinds i p xs ≡ [] → values_kinds i p ys ≡ [] → values_kinds i p (xs ++ ys) ≡ []
+values_kinds-append : (i : Bool) (p : ValueParser) (xs ys : List Text) → values_kinds i p xs ≡ []
+    → values_kinds i p ys ≡ [] → values_kinds i p (xs ++ ys) ≡ []
 values_kinds-append i p [] ys h k = k
 values_kinds-append i p (x ∷ xs) ys h k =
     both_none (value_kinds i p x) (values_kinds i p (xs ++ ys)) (or_none_first (value_kinds i p x) (values_kinds i p xs) h)
@@ -67,7 +80,9 @@ Repeats a = (action_of a ≡ Append) × (nat_lt 0 (unwrap_or_range a.range).star
 -- each rule is found by its id, and takes a value, asks for a text, is a flag or may be given again
 pub record PlainRules (c : List Rule) : Type 0 where
   pub own : (a : Rule) → IsIn a c → arg_by_id c a.id ≡ Some a
-  pub acts : (a : Rule) → IsIn a c → ((action_of a ≡ Set) × (nat_lt 0 (unwrap_or_range a.range).start_inclusive ≡ true)) ⊎ (is_request (action_of a) ≡ true) ⊎ IsFlag a ⊎ Repeats a
+  pub acts : (a : Rule) → IsIn a c → ((action_of a ≡ Set)
+      × (nat_lt 0 (unwrap_or_range a.range).start_inclusive ≡ true)) ⊎ (is_request (action_of a) ≡ true) ⊎ IsFlag a
+      ⊎ Repeats a
 
 -- ---- rows
 
@@ -118,7 +133,8 @@ without_passing c id (r ∷ rows) h = go (bytes_eq r.id id) refl (without_passin
 
 -- ---- one use
 
-no_request : (x : ArgAction) (again : Bool) (a : Rule) (vs : List Text) (rows : List Row) → is_request x ≡ true → action_fault x again a vs rows ≡ [] → ⊥
+no_request : (x : ArgAction) (again : Bool) (a : Rule) (vs : List Text) (rows : List Row) → is_request x ≡ true
+    → action_fault x again a vs rows ≡ [] → ⊥
 no_request Set again a vs rows h f = cc
 no_request _ again a vs rows h f = cc
 
@@ -173,7 +189,8 @@ used_passing c p a is again vs rows f h = elim (p.acts a is) [
 
 -- ---- the walk
 
-settled_passing : (c : List Rule) → PlainRules c → (again : Bool) (h : Held) → settle_fault c again h ≡ [] → Passing c h.rows → Passing c (settled c h).rows
+settled_passing : (c : List Rule) → PlainRules c → (again : Bool) (h : Held) → settle_fault c again h ≡ []
+    → Passing c h.rows → Passing c (settled c h).rows
 settled_passing c p again h f pass = go h.pending refl
   where
     used_one : (o : Option (Text × List Text)) (id : Text) (vs : List Text) (found : Option Rule) → arg_by_id c id ≡ found
@@ -185,18 +202,21 @@ settled_passing c p again h f pass = go h.pending refl
     go None e = rw e pass
     go (Some q) e = rw e (used_one (Some q) q.0 q.1 (arg_by_id c q.0) refl (rw e at f))
 
-reacted_passing : (c : List Rule) → PlainRules c → (again : Bool) (a : Rule) → IsIn a c → (vs : List Text) (h : Held) → react_fault c again a vs h ≡ []
+reacted_passing : (c : List Rule) → PlainRules c → (again : Bool) (a : Rule) → IsIn a c → (vs : List Text) (h : Held)
+    → react_fault c again a vs h ≡ []
     → Passing c h.rows → Passing c (reacted c a vs h).rows
 reacted_passing c p again a is vs h f pass =
     used_passing c p a is again vs (settled c h).rows (or_none_second (settle_fault c again h) _ f)
     (settled_passing c p again h (or_none_first (settle_fault c again h) _ f) pass)
 
-option_passing : (c : List Rule) → PlainRules c → (again : Bool) (a : Rule) → IsIn a c → (v : Option Text) (h : Held) → option_fault c again a v h ≡ []
+option_passing : (c : List Rule) → PlainRules c → (again : Bool) (a : Rule) → IsIn a c → (v : Option Text) (h : Held)
+    → option_fault c again a v h ≡ []
     → Passing c h.rows → Passing c (option_met c a v h).0.rows
 option_passing c p again a is (Some v) h f pass = reacted_passing c p again a is (v ∷ []) h f pass
 option_passing c p again a is None h f pass = settled_passing c p again h f pass
 
-long_passing : (c : List Rule) → PlainRules c → (again : Bool) (found : Option Rule) → ((a : Rule) → found ≡ Some a → IsIn a c) → (v : Option Text) (h : Held)
+long_passing : (c : List Rule) → PlainRules c → (again : Bool) (found : Option Rule)
+    → ((a : Rule) → found ≡ Some a → IsIn a c) → (v : Option Text) (h : Held)
     → long_fault c again found v h ≡ [] → Passing c h.rows → Passing c (long_met c found v h).0.rows
 long_passing c p again None is v h f pass = absurd cc
 long_passing c p again (Some a) is v h f pass = go (takes_values a) refl
@@ -209,7 +229,8 @@ long_passing c p again (Some a) is v h f pass = go (takes_values a) refl
     go true e = rw e (option_passing c p again a (is a refl) v h (rw e at f) pass)
     go false e = rw e (flag v refl f e)
 
-short_passing : (c : List Rule) → PlainRules c → (again : Bool) (found : Option Rule) → ((a : Rule) → found ≡ Some a → IsIn a c) → (rest : Text) (h : Held)
+short_passing : (c : List Rule) → PlainRules c → (again : Bool) (found : Option Rule)
+    → ((a : Rule) → found ≡ Some a → IsIn a c) → (rest : Text) (h : Held)
     (next_fault : Held → Kinds) (next_met : Held → Held × Outcome)
     → ((k : Held) → next_fault k ≡ [] → Passing c k.rows → Passing c (next_met k).0.rows)
     → short_fault c again found rest h next_fault ≡ [] → Passing c h.rows → Passing c (short_met c found rest h next_met).0.rows
@@ -235,7 +256,8 @@ bundle_step_passing c p again k (Some x) flags zero so_far h rec f pass =
     (λ i g pass2. rec rest 0 done i g pass2) f pass
 bundle_step_passing c p again k (Some x) flags (suc skip) so_far h rec f pass = rec (drop (length (encode_utf8 x)) flags) skip so_far h f pass
 
-flags_passing : (c : List Rule) → PlainRules c → (again : Bool) (k : ℕ) (flags : Text) (skip : ℕ) (so_far : Outcome) (h : Held) → flags_fault c again k flags skip h ≡ []
+flags_passing : (c : List Rule) → PlainRules c → (again : Bool) (k : ℕ) (flags : Text) (skip : ℕ) (so_far : Outcome)
+    (h : Held) → flags_fault c again k flags skip h ≡ []
     → Passing c h.rows → Passing c (bundle_met c k flags skip so_far h).0.rows
 unfolding flags_fault bundle_met
 flags_passing c p again zero flags skip so_far h f pass = pass
@@ -271,7 +293,8 @@ flag_word_passing c p again waiting word (Some q) h f pass =
     (long_passing c p again (arg_by_long c q.0) (λ a e. found_is_in _ c a e) q.1 h f pass)
 flag_word_passing c p again waiting word None h f pass = short_or_plain_passing c p again waiting word (short_of word) h f pass
 
-other_passing : (s : Shape) → PlainRules s.rules → (o : Option Text) (waiting : Waiting) (position : ℕ) (word : Text) (h : Held) → other_fault s o word h ≡ []
+other_passing : (s : Shape) → PlainRules s.rules → (o : Option Text) (waiting : Waiting) (position : ℕ) (word : Text)
+    (h : Held) → other_fault s o word h ≡ []
     → Passing s.rules h.rows → Passing s.rules (subcommand_or_other s.rules o waiting position word h).0.rows
 other_passing s p (Some name) waiting position word h f pass = pass
 other_passing s p None waiting position word h f pass = go (bytes_eq word (45 ∷ 45 ∷ [])) refl
@@ -281,7 +304,8 @@ other_passing s p None waiting position word h f pass = go (bytes_eq word (45 �
     go false e = rw e (flag_word_passing s.rules p s.args_override_self waiting word (long_of word) h (rw e at f) pass)
 
 word_passing : (s : Shape) (names : Names) → PlainRules s.rules → (is_trailing : Bool) (waiting : Waiting) (position : ℕ) (word : Text) (h : Held)
-    → word_fault s names is_trailing waiting word h ≡ [] → Passing s.rules h.rows → Passing s.rules (word_met s.rules names is_trailing waiting position word h).0.rows
+    → word_fault s names is_trailing waiting word h ≡ [] → Passing s.rules h.rows
+    → Passing s.rules (word_met s.rules names is_trailing waiting position word h).0.rows
 word_passing s names p true waiting position word h f pass = pass
 word_passing s names p false waiting position word h f pass = other_passing s p (subcommand_met names waiting word) waiting position word h f pass
 
@@ -302,7 +326,8 @@ after_step_passing s p word w h (trailing position) f pass = pass
 after_step_passing s p word w h (subcommand name) f pass = pass
 after_step_passing s p word w h value f pass = positional_passing s p (arg_by_index s.rules w.position) word w h f pass
 
-walked_passing : (s : Shape) (names : Names) → PlainRules s.rules → (w : Walk) (word : Text) → turn_fault s names w word ≡ [] → Passing s.rules w.held.rows
+walked_passing : (s : Shape) (names : Names) → PlainRules s.rules → (w : Walk) (word : Text)
+    → turn_fault s names w word ≡ [] → Passing s.rules w.held.rows
     → Passing s.rules (walked s.rules names w word).held.rows
 unfolding walked
 walked_passing s names p w word f pass = go w.stopped refl
@@ -314,11 +339,13 @@ walked_passing s names p w word f pass = go w.stopped refl
     go (Some q) e = rw e pass
     go None e =
         let g : or_else (word_fault s names w.is_trailing w.waiting word w.held) (step_fault s w.position met.0 met.1) ≡ [] = rw e at f in
-        let after = word_passing s names p w.is_trailing w.waiting w.position word w.held (or_none_first _ (step_fault s w.position met.0 met.1) g) pass in
+        let after = word_passing s names p w.is_trailing w.waiting w.position word w.held
+        (or_none_first _ (step_fault s w.position met.0 met.1) g) pass in
         subst (λ (x : Option (Text × List Text)). Passing s.rules (walked_from s.rules names x w word).held.rows) (sym e)
         (after_step_passing s p word w met.0 met.1 (or_none_second (word_fault s names w.is_trailing w.waiting word w.held) _ g) after)
 
-pub walk_passing : (s : Shape) (names : Names) → PlainRules s.rules → (w : Walk) (words : List Text) → walk_fault s names w words ≡ [] → Passing s.rules w.held.rows
+pub walk_passing : (s : Shape) (names : Names) → PlainRules s.rules → (w : Walk) (words : List Text)
+    → walk_fault s names w words ≡ [] → Passing s.rules w.held.rows
     → Passing s.rules (fold (walked s.rules names) w words).held.rows
 unfolding walk_fault
 walk_passing s names p w [] f pass = pass
@@ -335,7 +362,8 @@ none_or a true (v ∷ vs) e g =
     absurd (omega arith)
 none_or a false vs e g = or_none_second (request_kinds (action_of a)) _ g
 
-default_passing : (c : List Rule) → PlainRules c → (a : Rule) → IsIn a c → (rows : List Row) → default_fault rows a ≡ [] → Passing c rows → Passing c (with_default rows a)
+default_passing : (c : List Rule) → PlainRules c → (a : Rule) → IsIn a c → (rows : List Row)
+    → default_fault rows a ≡ [] → Passing c rows → Passing c (with_default rows a)
 default_passing c p a is rows f pass = go (has_row a.id rows) refl
   where
     given : (vs : List Text) → values_fault a vs ≡ [] → Passing c (default_rows a.id (reading_by a) vs rows)
@@ -346,7 +374,8 @@ default_passing c p a is rows f pass = go (has_row a.id rows) refl
     go true e = rw e pass
     go false e = rw e (given a.defaults (none_or a (is_empty a.defaults) a.defaults refl (rw e at f)))
 
-pub defaults_passing : (c : List Rule) → PlainRules c → (xs : List Rule) → ((a : Rule) → IsIn a xs → IsIn a c) → (rows : List Row) → defaults_fault rows xs ≡ []
+pub defaults_passing : (c : List Rule) → PlainRules c → (xs : List Rule) → ((a : Rule) → IsIn a xs → IsIn a c)
+    → (rows : List Row) → defaults_fault rows xs ≡ []
     → Passing c rows → Passing c (fold with_default rows xs)
 unfolding defaults_fault
 defaults_passing c p [] is rows f pass = pass
@@ -356,25 +385,30 @@ defaults_passing c p (a ∷ xs) is rows f pass =
 
 -- ---- a level
 
-pub level_passing : (s : Shape) (names : Names) (words : List Text) (has : Bool) (below : Kinds) → PlainRules s.rules → level_fault s names nothing_held words has below ≡ []
+pub level_passing : (s : Shape) (names : Names) (words : List Text) (has : Bool) (below : Kinds) → PlainRules s.rules
+    → level_fault s names nothing_held words has below ≡ []
     → Passing s.rules (rows_after s.rules names words)
 level_passing s names words has below p f =
     let end = (walk s.rules names nothing_held words).held in
     let rest = or_none_second (walk_fault s names (walk_from nothing_held) words) _ f in
     let last = or_none_second below _ rest in
     let settle = or_none_first (settle_fault s.rules s.args_override_self end) _ last in
-    let defaults = or_none_first (defaults_fault (settled s.rules end).rows s.rules) _ (or_none_second (settle_fault s.rules s.args_override_self end) _ last) in
+    let defaults = or_none_first (defaults_fault (settled s.rules end).rows s.rules) _
+    (or_none_second (settle_fault s.rules s.args_override_self end) _ last) in
     let walked = walk_passing s names p (walk_from nothing_held) words (or_none_first (walk_fault s names (walk_from nothing_held) words) _ f) tt in
-    defaults_passing s.rules p s.rules (λ a i. i) (settled s.rules end).rows defaults (settled_passing s.rules p s.args_override_self end settle walked)
+    defaults_passing s.rules p s.rules (λ a i. i) (settled s.rules end).rows defaults
+    (settled_passing s.rules p s.args_override_self end settle walked)
 
-pub level_checked : (s : Shape) (names : Names) (words : List Text) (has : Bool) (below : Kinds) → level_fault s names nothing_held words has below ≡ []
+pub level_checked : (s : Shape) (names : Names) (words : List Text) (has : Bool) (below : Kinds)
+    → level_fault s names nothing_held words has below ≡ []
     → check_fault s (rows_after s.rules names words) has ≡ []
 level_checked s names words has below f =
     let end = (walk s.rules names nothing_held words).held in
     let last = or_none_second below _ (or_none_second (walk_fault s names (walk_from nothing_held) words) _ f) in
     or_none_second (defaults_fault (settled s.rules end).rows s.rules) _ (or_none_second (settle_fault s.rules s.args_override_self end) _ last)
 
-pub level_below : (s : Shape) (names : Names) (words : List Text) (has : Bool) (below : Kinds) → level_fault s names nothing_held words has below ≡ [] → below ≡ []
+pub level_below : (s : Shape) (names : Names) (words : List Text) (has : Bool) (below : Kinds)
+    → level_fault s names nothing_held words has below ≡ [] → below ≡ []
 level_below s names words has below f = or_none_first below _ (or_none_second (walk_fault s names (walk_from nothing_held) words) _ f)
 
 no_check : (a b c : Bool) → check_kinds a b c ≡ [] → (b ≡ false) × (c ≡ false)
@@ -407,78 +441,3 @@ required_given s rows has a is negates required f =
     let any = (no_check _ _ _ f).1 in
     let none : list_any (λ x. x.required && not (is_given x.id rows)) s.rules ≡ false = rw negates at any in
     not_false (is_given a.id rows) (rw required at (any_false (λ x. x.required && not (is_given x.id rows)) s.rules a is none))
-
--- ---- values
-
-no_kinds : (b : Bool) (k : Kinds) → cond b [] k ≡ [] → k ≢ [] → b ≡ true
-no_kinds true k f n = refl
-no_kinds false k f n = absurd (n f)
-
-row_value : (c : List Rule) (a : Rule) (r : Row) → arg_by_id c a.id ≡ Some a → bytes_eq r.id a.id ≡ true → RowPasses c r
-    → (t : Text) × (row_text r ≡ Some (read_as (reading_by a) t)) × (accepts a.ignore_case (parser_of_value a.parser) t ≡ true)
-row_value c a r own same p = go r.values refl
-  where
-    same_id : r.id ≡ a.id
-    same_id = (bytes_eq-Decides r.id a.id).0 same
-
-    is_a : p.rule ≡ a
-    is_a =
-        let both : Some p.rule ≡ Some a = sym p.found ∙ (ap (arg_by_id c) same_id ∙ own) in
-        cc
-
-    go : (vs : List Text) → r.values ≡ vs → (t : Text) × (row_text r ≡ Some (read_as (reading_by a) t)) × (accepts a.ignore_case (parser_of_value a.parser) t ≡ true)
-    go [] e = let some = rw e at p.some in absurd (omega arith)
-    go (v ∷ vs) e =
-        let first : values_kinds a.ignore_case (parser_of_value a.parser) (v ∷ vs) ≡ [] = subst (λ (x : Rule). values_fault x (v ∷ vs) ≡ []) is_a (rw e at p.passed) in (
-          v,
-          rw (e, p.read) (ap (λ (x : Rule). Some (read_as (reading_by x) v)) is_a),
-          no_kinds (accepts a.ignore_case (parser_of_value a.parser) v) _ (or_none_first (value_kinds a.ignore_case (parser_of_value a.parser) v) _ first) (λ bad. cc),
-        )
-
-find_passing : (c : List Rule) (rows : List Row) (id : Text) (r : Row) → Passing c rows → find (λ x. bytes_eq x.id id) rows ≡ Some r
-    → (bytes_eq r.id id ≡ true) × RowPasses c r
-find_passing c [] id r pass found = absurd cc
-find_passing c (x ∷ rows) id r pass found = go (bytes_eq x.id id) refl (λ g. find_passing c rows id r pass.1 g)
-  where
-    go : (b : Bool) → bytes_eq x.id id ≡ b → (find (λ x. bytes_eq x.id id) rows ≡ Some r → (bytes_eq r.id id ≡ true) × RowPasses c r)
-        → (bytes_eq r.id id ≡ true) × RowPasses c r
-    go true e rec =
-        let same : Some x ≡ Some r = rw e at found in
-        let is : x ≡ r = cc in
-        (subst (λ (y : Row). bytes_eq y.id id ≡ true) is e, subst (RowPasses c) is pass.0)
-    go false e rec = rec (rw e at found)
-
--- an option that was found has a value, which its parser accepts
-found_value : (c : List Rule) (rows : List Row) (a : Rule) (r : Row) → arg_by_id c a.id ≡ Some a → Passing c rows → find (λ x. bytes_eq x.id a.id) rows ≡ Some r → HasValue a rows
-found_value c rows a r own pass found =
-    let at = find_passing c rows a.id r pass found in
-    let got = row_value c a r own at.0 at.1 in
-    record { text = got.0; read = rw found got.1; passed = got.2 }
-
--- an option has no value, or one that its parser accepts
-pub passed_value : (c : List Rule) (rows : List Row) (a : Rule) → arg_by_id c a.id ≡ Some a → Passing c rows → (one_of a.id rows ≡ None) ⊎ HasValue a rows
-passed_value c rows a own pass = go (find (λ x. bytes_eq x.id a.id) rows) refl
-  where
-    go : (o : Option Row) → find (λ x. bytes_eq x.id a.id) rows ≡ o → (one_of a.id rows ≡ None) ⊎ HasValue a rows
-    go None e = inl (rw e refl)
-    go (Some r) e = inr (found_value c rows a r own pass e)
-
--- an option that the command has not was given no value
-pub absent_value : (c : List Rule) (rows : List Row) (id : Text) → arg_by_id c id ≡ None → Passing c rows → one_of id rows ≡ None
-absent_value c [] id none pass = refl
-absent_value c (r ∷ rows) id none pass = go (bytes_eq r.id id) refl (absent_value c rows id none pass.1)
-  where
-    go : (b : Bool) → bytes_eq r.id id ≡ b → one_of id rows ≡ None → one_of id (r ∷ rows) ≡ None
-    go true e rec =
-        let same_id : r.id ≡ id = (bytes_eq-Decides r.id id).0 e in
-        let bad : Some pass.0.rule ≡ None = sym pass.0.found ∙ (ap (arg_by_id c) same_id ∙ none) in
-        cc
-    go false e rec = rw e rec
-
--- an option that was given has such a value
-pub given_value : (c : List Rule) (rows : List Row) (a : Rule) → arg_by_id c a.id ≡ Some a → Passing c rows → is_given a.id rows ≡ true → HasValue a rows
-given_value c rows a own pass given = go (find (λ x. bytes_eq x.id a.id) rows) refl
-  where
-    go : (o : Option Row) → find (λ x. bytes_eq x.id a.id) rows ≡ o → HasValue a rows
-    go None e = let bad : false ≡ true = rw e at given in absurd cc
-    go (Some r) e = found_value c rows a r own pass e

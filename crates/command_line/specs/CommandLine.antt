@@ -1,5 +1,6 @@
 -- The command line: what the program's words ask for, by clap's own functions of the words.
-use Rattle.std.specs.Prelude.{true, ◌&&◌, ◌||◌, ◌==◌, ℕ, Bool, false, not, List, [], ◌∷◌, Option, Some, None, is_some, codes, get_or, length, map, nat_lt, option_map, take, unwrap_or, if◌then◌else◌}
+use Rattle.std.specs.Prelude.{true, ◌&&◌, ◌||◌, ◌==◌, ℕ, Bool, false, not, List, [], ◌∷◌, Option, Some, None, is_some}
+use Rattle.std.specs.Prelude.{codes, get_or, length, map, nat_lt, option_map, take, unwrap_or, if◌then◌else◌}
 use Rattle.std.specs.Option.{option_and_then, option_map_or}
 use Rattle.std.specs.Str.{bytes_eq}
 use Rattle.std.specs.Str.Parse.{digits_value, without_leading_plus}
@@ -19,22 +20,23 @@ use Rattle.boards.specs.declared.setting.Vul.{Vul}
 use Rattle.boards.specs.declared.setting.Vul.TheVariants.{Neither, NorthSouth, EastWest, Both}
 use Rattle.cards.specs.declared.seat.Seat.{Seat}
 use Rattle.cards.specs.declared.seat.Seat.TheVariants.{North, East, South, West}
-use Rattle.request_types.specs.Defaults.{with_long_lanes}
-use Rattle.request_types.specs.PredealtHands.{GivenHands}
-use Rattle.request_types.specs.Requests.{Look, Questions, Search, Wish, conditions, count, draw}
-use Rattle.lessons.specs.Lessons.{Lesson, lesson_named}
-use Rattle.request_types.specs.Requests.{lessons, make, each_question, no_question, numbers_look, one_question, pick, plain_look, show, stream, two_questions}
-use Rattle.request_types.specs.declared.request.Notices.{Notices}
+use Rattle.requests.specs.Defaults.{with_long_lanes}
+use Rattle.requests.specs.PredealtHands.{GivenHands}
+use Rattle.requests.specs.Requests.{Look, Questions, Search, Wish, conditions, count, draw}
+use Rattle.requests.specs.Lessons.{Lesson, lesson_named}
+use Rattle.requests.specs.Requests.{lessons, make, each_question, no_question, numbers_look, one_question, pick}
+use Rattle.requests.specs.Requests.{plain_look, show, stream, two_questions}
+use Rattle.requests.specs.declared.request.Notices.{Notices}
 use Rattle.boards.specs.Formats.{formats}
 use Rattle.boards.specs.declared.format.Format.TheVariants.{Pbn}
 use Rattle.boards.specs.declared.show.Show.{Show}
 use Rattle.boards.specs.declared.show.Seats.TheVariants.{All}
 use Rattle.boards.specs.Show.{points_words, show_words}
-use Rattle.request_types.specs.declared.workers.Workers.{Workers}
-use Rattle.request_types.specs.declared.workers.Workers.TheVariants.{Number}
-use Rattle.request_types.specs.declared.workers.Workers.TheVariants as workers
-use Rattle.request_types.specs.declared.when.When.{When}
-use Rattle.request_types.specs.declared.when.When.TheVariants.{Auto, Always, Never}
+use Rattle.requests.specs.declared.workers.Workers.{Workers}
+use Rattle.requests.specs.declared.workers.Workers.TheVariants.{Number}
+use Rattle.requests.specs.declared.workers.Workers.TheVariants as workers
+use Rattle.requests.specs.declared.when.When.{When}
+use Rattle.requests.specs.declared.when.When.TheVariants.{Auto, Always, Never}
 use Rattle.boards.specs.declared.style.Style.{Style}
 use Rattle.boards.specs.declared.style.Style.TheVariants.{Csv, Html, Json, Table}
 

@@ -1,4 +1,4 @@
-pub use Rattle.request_types.specs.Requests
+pub use Rattle.requests.specs.Requests
 pub mod Commands
 pub mod CommandLine
 pub mod Reading

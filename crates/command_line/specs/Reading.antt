@@ -5,8 +5,8 @@ use Rattle.clap.specs.Words.{Text, kind_of}
 use Rattle.clap.specs.declared.error.Error.{Error}
 use Rattle.clap.specs.declared.error.kind.ErrorKind.TheVariants as kind
 use Rattle.command_line.specs.CommandLine.{asked, kinds_for}
-use Rattle.request_types.specs.Requests.{wish_of}
-use Rattle.request_types.specs.declared.request.Request.{Request}
+use Rattle.requests.specs.Requests.{wish_of}
+use Rattle.requests.specs.declared.request.Request.{Request}
 
 -- what was read of the words: what they ask for, or clap's error. Of words that ask for something
 -- only that memory ran out is one

@@ -17,7 +17,7 @@ use boards::{
 };
 use cards::Seat;
 use clap::ArgMatches;
-use request_types::When;
+use requests::When;
 
 /// An option that has one of a few words.
 pub struct Choice<T: Copy + 'static> {

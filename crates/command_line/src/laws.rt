@@ -8,16 +8,16 @@ ghost use Rattle.clap.specs.declared.error.kind.ErrorKind.TheVariants.{MissingRe
 ghost use Rattle.clap.specs.declared.error.kind.ErrorKind.TheVariants.{UnknownArgument};
 ghost use Rattle.clap.specs.declared.error.kind.ErrorKind.TheVariants.{ValueValidation};
 ghost use Rattle.command_line.specs.CommandLine.{asked, kinds_for};
-ghost use Rattle.request_types.specs.PredealtHands.{none_given};
-ghost use Rattle.request_types.specs.Requests.{conditions, count, draw, make};
-ghost use Rattle.request_types.specs.Requests.{lessons, numbers_look, pick, show};
-ghost use Rattle.request_types.specs.Requests.{plain_look, plain_notices, plain_search, stream};
-ghost use Rattle.request_types.specs.Requests.{two_questions};
+ghost use Rattle.requests.specs.PredealtHands.{none_given};
+ghost use Rattle.requests.specs.Requests.{conditions, count, draw, make};
+ghost use Rattle.requests.specs.Requests.{lessons, numbers_look, pick, show};
+ghost use Rattle.requests.specs.Requests.{plain_look, plain_notices, plain_search, stream};
+ghost use Rattle.requests.specs.Requests.{two_questions};
 ghost use Rattle.boards.specs.declared.format.Format.TheVariants.{Hands};
 ghost use Rattle.boards.specs.declared.show.Seats.TheVariants.{Dealer};
 ghost use Rattle.boards.specs.Show.{all_shown};
-ghost use Rattle.request_types.specs.declared.workers.Workers.TheVariants as workers;
-ghost use Rattle.request_types.specs.declared.when.When.TheVariants.{Always, Auto, Never};
+ghost use Rattle.requests.specs.declared.workers.Workers.TheVariants as workers;
+ghost use Rattle.requests.specs.declared.when.When.TheVariants.{Always, Auto, Never};
 ghost use Rattle.boards.specs.declared.style.Style.TheVariants.{Csv};
 
 /// `deals stream --seed 0 --count 3` asks for the first three values of seed 0.

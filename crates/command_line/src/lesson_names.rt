@@ -5,11 +5,11 @@
 ghost use Rattle.std.specs.Prelude.{◌≡◌, is_some, option_map};
 ghost use Rattle.clap.specs.Words.{found_of, rows_of};
 ghost use Rattle.command_line.specs.CommandLine.{is_no_lesson, lesson_in};
-ghost use Rattle.lessons.specs.Lessons.{lesson_of};
+ghost use Rattle.requests.specs.Lessons.{lesson_of};
 
 use crate::words::text_in;
 use clap::ArgMatches;
-use lessons::{Lesson, name_at, named};
+use requests::lessons::{Lesson, name_at, named};
 use std::alloc::{AllocError, Global};
 use strsim::osa_distance;
 

@@ -17,9 +17,9 @@ ghost use Rattle.command_line.specs.internal.Asking.{Asks, AsksLessons, AsksMake
 ghost use Rattle.command_line.specs.internal.Asking.{HasValues};
 ghost use Rattle.command_line.specs.internal.Readings.{MakeValues, MayGive32, MayGive64};
 ghost use Rattle.command_line.specs.internal.Readings.{SearchValues, StreamValues};
-ghost use Rattle.lessons.specs.Lessons.{lesson_of};
-ghost use Rattle.request_types.specs.PredealtHands.{given_by};
-ghost use Rattle.request_types.specs.Requests.{look_of, questions_of, search_of, wish_of};
+ghost use Rattle.requests.specs.Lessons.{lesson_of};
+ghost use Rattle.requests.specs.PredealtHands.{given_by};
+ghost use Rattle.requests.specs.Requests.{look_of, questions_of, search_of, wish_of};
 
 use crate::choices::{
     DEALER, FORMAT, HINTS, POINTS, PROGRESS, SHOW, STYLE, VULNERABLE, unknown_in,
@@ -33,8 +33,8 @@ use crate::subcommands::{Dealing, Subcommand, command, subcommand_named};
 use crate::workers::{bad_workers_in, workers_in};
 use boards::{Seats, Show};
 use clap::{ArgMatches, Error};
-use lessons::Lesson;
-use request_types::{
+use requests::lessons::Lesson;
+use requests::{
     Format, Look, MAX_QUESTIONS, Notices, PredealtHands, Questions, Request, Search, StreamRequest,
     Style, Texts, When,
 };

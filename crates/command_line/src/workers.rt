@@ -10,7 +10,7 @@ ghost use Rattle.command_line.specs.CommandLine.{workers_meant};
 
 use crate::words::text_in;
 use clap::ArgMatches;
-use request_types::Workers;
+use requests::Workers;
 
 /// The number of 32 bits that a text writes in digits.
 fn number32(text: &str) -> Option<u32>

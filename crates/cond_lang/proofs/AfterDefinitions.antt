@@ -1,5 +1,7 @@
 -- Definitions that are accepted have no fault, whatever text is read after them.
-use Rattle.std.proofs.Common.{◌≡◌, ℕ, zero, suc, ◌+◌, ◌<◌, ◌≤◌, ◌⊎◌, Bool, false, List, [], ◌∷◌, ◌++◌, length, take, drop, map, slice_get, Ok, Err, Some, None, refl, sym, ap, ◌∙◌, subst, inl, inr, arith, append_assoc, length-append, take-append-drop}
+use Rattle.std.proofs.Common.{◌≡◌, ℕ, zero, suc, ◌+◌, ◌<◌, ◌≤◌, ◌⊎◌, Bool, false, List, [], ◌∷◌, ◌++◌, length, take}
+use Rattle.std.proofs.Common.{drop, map, slice_get, Ok, Err, Some, None, refl, sym, ap, ◌∙◌, subst, inl, inr, arith}
+use Rattle.std.proofs.Common.{append_assoc, length-append, take-append-drop}
 use Rattle.std.specs.List.{AllByRecursion}
 use Rattle.std.proofs.lemmas.List.Sums.{sum_by-cons}
 use Rattle.std.proofs.lemmas.List.{length-map, map-append, take-append-le}
@@ -17,7 +19,9 @@ use Rattle.cond_lang.specs.declared.scanner.Piece.{Piece}
 use Rattle.cond_lang.specs.declared.scanner.Piece.TheVariants.{Separator, Token as TokenPiece, StrayByte, UnknownWord, LongNumber}
 use Rattle.cond_lang.specs.After.{GivesNames, IsFrom, start_after, text_after}
 use Rattle.cond_lang.specs.Asking.{Asks}
-use Rattle.cond_lang.specs.Cut.{symbols, EndsRun, IsRun, BeginsWithSymbol, IsPiece, blank, comment, word, ranks, no_word, number as digits, long, symbol, stray, Pieces, IsCut, end, piece, Naming, no_names, naming_after, naming_behind, named_piece, named_from, named, HasTokens}
+use Rattle.cond_lang.specs.Cut.{symbols, EndsRun, IsRun, BeginsWithSymbol, IsPiece, blank, comment, word, ranks}
+use Rattle.cond_lang.specs.Cut.{no_word, number as digits, long, symbol, stray, Pieces, IsCut, end, piece, Naming}
+use Rattle.cond_lang.specs.Cut.{no_names, naming_after, naming_behind, named_piece, named_from, named, HasTokens}
 use Rattle.cond_lang.specs.Definitions.{AreDefinitions, Spells, defined}
 use Rattle.cond_lang.specs.Faults.{bytes_of, HasFault, IsDueIn, IsFirstFaultIn, HasSyntaxFaultIn, offset_of}
 use Rattle.cond_lang.specs.Grammar.{Meanings, both, unit, test, comparison, atom, a_number}
@@ -139,7 +143,8 @@ more_back : (t : Placed) (r : Told) (ts : List Placed) → and_then_more t r ≡
 more_back t (Ok more) ts e = let same : t ∷ more ≡ ts = cc in (more, refl, sym same)
 more_back t (Err f) ts e = absurd (cc)
 
-joined : (at : ℕ) (ps qs : Pieces) (ts : List Placed) → told_from at ps ≡ Ok ts → told_from at (ps ++ qs) ≡ with_tokens ts (told_from (at + bytes_of ps) qs)
+joined : (at : ℕ) (ps qs : Pieces) (ts : List Placed) → told_from at ps ≡ Ok ts
+    → told_from at (ps ++ qs) ≡ with_tokens ts (told_from (at + bytes_of ps) qs)
 joined at [] qs ts e =
     let none : ts ≡ [] = cc in
     let there : at ≡ at + bytes_of [] = omega arith in
@@ -204,7 +209,8 @@ told_later : (at : ℕ) (ps : Pieces) → IsToldFrom at (told_from at ps)
 told_later at [] = tt
 told_later at ((w, Separator) ∷ ps) = later at (at + length w) (omega arith) (told_from (at + length w) ps) (told_later (at + length w) ps)
 told_later at ((w, TokenPiece t) ∷ ps) =
-    one_more at t (told_from (at + length w) ps) (later at (at + length w) (omega arith) (told_from (at + length w) ps) (told_later (at + length w) ps))
+    one_more at t (told_from (at + length w) ps) (later at (at + length w) (omega arith)
+    (told_from (at + length w) ps) (told_later (at + length w) ps))
 told_later at ((w, StrayByte) ∷ ps) = omega arith
 told_later at ((w, UnknownWord) ∷ ps) = omega arith
 told_later at ((w, LongNumber) ∷ ps) = omega arith
@@ -259,7 +265,8 @@ not_within :
 not_within S T R n (X, x, goes) f lt =
     let front : take (n + 1) (T ++ R) ≡ take (n + 1) T = take-append-le (n + 1) T R (omega (arith, lt)) in
     let whole : take (n + 1) (T ++ R) ++ (drop (n + 1) T ++ X) ≡ T ++ X =
-    ap (λ L. L ++ (drop (n + 1) T ++ X)) front ∙ sym (append_assoc (take (n + 1) T) (drop (n + 1) T) X) ∙ ap (λ L. L ++ X) (take-append-drop (n + 1) T) in
+    ap (λ L. L ++ (drop (n + 1) T ++ X)) front ∙ sym (append_assoc (take (n + 1) T) (drop (n + 1) T) X)
+    ∙ ap (λ L. L ++ X) (take-append-drop (n + 1) T) in
     f.with_it (omega (arith, lt, length-append T R)) (drop (n + 1) T ++ X, x, subst (λ L. S L x) (sym whole) goes)
 
 syntax_after :
@@ -288,8 +295,12 @@ abbrev zero_is_zero : List Token
 zero_is_zero = Number 0 ∷ Relation Equal ∷ Number 0 ∷ []
 
 spells_more : {T : List Token} {N : Meanings} → AreDefinitions [] T N → GoesOn Spells T
-spells_more d =
-    (zero_is_zero, compare (number 0) Equal (number 0), defined d (both (unit (test (comparison {L = Number 0 ∷ []} {R = Number 0 ∷ []} (atom a_number) (atom a_number))))))
+spells_more d = (
+  zero_is_zero,
+  compare (number 0) Equal (number 0),
+  defined d
+      (both (unit (test (comparison {L = Number 0 ∷ []} {R = Number 0 ∷ []} (atom a_number) (atom a_number))))),
+)
 
 due_after :
     {A : Type 0} (S : List Token → A → Type 0) (parts : A → ℕ) (D t : List ℕ) (e : CondError) (g : GivesNames D)

@@ -1,9 +1,7 @@
 -- A condition stays one if a token gives way to another of its kind, and if the bound classes stand
 -- for others of their members.
-use Rattle.std.proofs.Common.{◌≡◌, ℕ, true, List, [], ◌∷◌, ◌++◌, Option, Some, None, refl, sym, ap, ◌∙◌, subst}
-use Rattle.std.specs.Prelude.{is_some, fold}
-use Rattle.cards.specs.declared.honours.Honours.{Honours}
-use Rattle.cards.specs.declared.hand.Measure.{Measure as AMeasure}
+use Rattle.std.proofs.Common.{◌≡◌, ℕ, List, [], ◌∷◌, ◌++◌, refl, sym, ap, ◌∙◌, subst}
+use Rattle.std.specs.Prelude.{fold}
 use Rattle.cards.specs.declared.seat.Seat.{Seat as ASeat}
 use Rattle.cards.specs.declared.seat.Seat.TheVariants.{North}
 use Rattle.cards.specs.declared.suit.Suit.{Suit as ASuit}
@@ -13,214 +11,33 @@ use Rattle.cond_lang.specs.declared.classes.Choice.{Choice}
 use Rattle.cond_lang.specs.declared.classes.Class.{Class as AClass}
 use Rattle.cond_lang.specs.declared.classes.Params.{Params}
 use Rattle.cond_lang.specs.declared.classes.Params.TheVariants.{OfSeat, OfSuit, OfBoth}
-use Rattle.cond_lang.specs.declared.classes.Quantifier.{Quantifier as AQuantifier}
-use Rattle.cond_lang.specs.declared.words.Kind.{Kind}
 use Rattle.cond_lang.specs.declared.words.Kind.TheVariants as kind
 use Rattle.conditions.specs.declared.tree.Count.{Count}
 use Rattle.conditions.specs.declared.tree.Item.{Item}
-use Rattle.conditions.specs.declared.tree.Item.TheVariants.{Length, Any}
-use Rattle.conditions.specs.declared.tree.Op.{Op}
 use Rattle.cond_lang.specs.declared.scanner.Token.{Token}
-use Rattle.cond_lang.specs.declared.scanner.Token.TheVariants.{Or, And, Not, Balanced, Shape, Pattern, Quantifier, Stops, Measure, Cards, Len, Longest, Second, Shortest, In, X, Seat, Suit, Class, Neighbour, Ranks, Number, Open, Close, Comma, Dash, Plus, Star, Relation, Let, Is, Name}
+use Rattle.cond_lang.specs.declared.scanner.Token.TheVariants.{Or, And, Not, Balanced, Shape, Pattern}
+use Rattle.cond_lang.specs.declared.scanner.Token.TheVariants.{Stops, Cards, Len, Longest, Second, Shortest}
+use Rattle.cond_lang.specs.declared.scanner.Token.TheVariants.{In, Neighbour, Number}
+use Rattle.cond_lang.specs.declared.scanner.Token.TheVariants.{Open, Close, Comma, Dash, Plus, Star, Relation}
+use Rattle.cond_lang.specs.declared.scanner.Token.TheVariants.{Name}
 use Rattle.cond_lang.specs.Continuations.{kind_of}
-use Rattle.conditions.specs.Form.{Amount, sum, number, counted, times, measured, suit_measured, cards_held, suit_cards_held, suit_length, longest, second, shortest, Form, any_of, all_of, negation, compare, within, balanced, shaped, patterned, stops}
-use Rattle.cond_lang.specs.Classes.{bound_to, choice, seat_bound_to, seat_beside, bind, members, Names, by_suit, by_class}
-use Rattle.cond_lang.specs.Grammar.{Meanings, SpellsArgs, no_args, seat_arg, suit_arg, both_args, named_value, named_condition, SpellsCounted, a_count, multiple, SpellsSeat, by_word, by_bound, beside, SpellsCount, SpellsHandTest, SpellsAtom, SpellsValue, atom, plus, a_number, count, measure, measure_in, len, cards, cards_in, longest_suit, second_suit, shortest_suit, item_token, four, SpellsCond, both, or, SpellsBoth, unit, and, SpellsUnit, not, brackets, quantified, test, SpellsTest, comparison, in_range, of_hand, is_balanced, has_shape, has_pattern, has_stopper, joined, SpellsEach, none as no_more, one_more}
+use Rattle.conditions.specs.Form.{Amount, sum, number, counted, times, measured, suit_measured, cards_held}
+use Rattle.conditions.specs.Form.{suit_cards_held, suit_length, longest, second, shortest, Form, any_of, all_of}
+use Rattle.conditions.specs.Form.{negation, compare, within, balanced, shaped, patterned, stops}
+use Rattle.cond_lang.specs.Classes.{choice, seat_bound_to, seat_beside, bind, members, Names}
+use Rattle.cond_lang.specs.Grammar.{Meanings, SpellsArgs, no_args, seat_arg, suit_arg, both_args, named_value}
+use Rattle.cond_lang.specs.Grammar.{named_condition, SpellsCounted, a_count, multiple, SpellsSeat, by_word, by_bound}
+use Rattle.cond_lang.specs.Grammar.{beside, SpellsCount, SpellsHandTest, SpellsAtom, SpellsValue, atom, plus}
+use Rattle.cond_lang.specs.Grammar.{a_number, count, measure, measure_in, len, cards, cards_in, longest_suit}
+use Rattle.cond_lang.specs.Grammar.{second_suit, shortest_suit, four, SpellsCond, both, or, SpellsBoth}
+use Rattle.cond_lang.specs.Grammar.{unit, and, SpellsUnit, not, brackets, quantified, test, SpellsTest, comparison}
+use Rattle.cond_lang.specs.Grammar.{in_range, of_hand, is_balanced, has_shape, has_pattern, has_stopper, joined}
+use Rattle.cond_lang.specs.Grammar.{SpellsEach, none as no_more, one_more}
 use Rattle.cond_lang.proofs.LikeNames.{LikeNames, like_names, condition_at, value_at}
-use Rattle.cond_lang.proofs.Scopes.{SameScope, bind_same, can_bind_same, some_of, members_some, suits_alike, seats_alike}
-
--- the lists have tokens of the same kinds
-pub data Alike : List Token → List Token → Type 0 where
-  none : Alike [] []
-  more : {x y : Token} {T U : List Token} → kind_of x ≡ kind_of y → Alike T U → Alike (x ∷ T) (y ∷ U)
-
-pub alike_refl : (T : List Token) → Alike T T
-alike_refl [] = none
-alike_refl (x ∷ T) = more refl (alike_refl T)
-
-pub alike_append : {T U R S : List Token} → Alike T U → Alike R S → Alike (T ++ R) (U ++ S)
-alike_append none b = b
-alike_append (more e a) b = more e (alike_append a b)
-
-pub join : {x y : Token} {T U : List Token} → x ≡ y → T ≡ U → x ∷ T ≡ y ∷ U
-join {x} {y} {T} {U} e i = ap (λ x. x ∷ T) e ∙ ap (λ T. y ∷ T) i
-
-pub moved : (N : List Token → Type 0) {T U : List Token} → U ≡ T → N T → N U
-moved N e h = subst N (sym e) h
-
--- ---- one token
-
--- the only token of a kind
-abbrev only : Kind → Option Token
-only kind.Not = Some Not
-only kind.Open = Some Open
-only kind.Balanced = Some Balanced
-only kind.Shape = Some Shape
-only kind.Pattern = Some Pattern
-only (kind.Quantifier k) = Some (Quantifier k)
-only kind.Stops = Some Stops
-only (kind.Measure m) = Some (Measure m)
-only kind.Cards = Some Cards
-only kind.Len = Some Len
-only kind.Longest = Some Longest
-only kind.Second = Some Second
-only kind.Shortest = Some Shortest
-only kind.Plus = Some Plus
-only kind.Star = Some Star
-only kind.In = Some In
-only kind.Dash = Some Dash
-only kind.X = Some X
-only kind.Comma = Some Comma
-only (kind.Class c) = Some (Class c)
-only (kind.Neighbour n) = Some (Neighbour n)
-only kind.Close = Some Close
-only kind.And = Some And
-only kind.Or = Some Or
-only kind.Let = Some Let
-only kind.Is = Some Is
-only (kind.Name n) = Some (Name n)
-only k = None
-
-only_of : (y t : Token) → only (kind_of y) ≡ Some t → y ≡ t
-only_of Or t e = cc
-only_of And t e = cc
-only_of Not t e = cc
-only_of Balanced t e = cc
-only_of Shape t e = cc
-only_of Pattern t e = cc
-only_of (Quantifier k) t e = cc
-only_of Stops t e = cc
-only_of (Measure m) t e = cc
-only_of Cards t e = cc
-only_of Len t e = cc
-only_of Longest t e = cc
-only_of Second t e = cc
-only_of Shortest t e = cc
-only_of In t e = cc
-only_of X t e = cc
-only_of Open t e = cc
-only_of Close t e = cc
-only_of Comma t e = cc
-only_of Dash t e = cc
-only_of Plus t e = cc
-only_of Star t e = cc
-only_of (Class c) t e = cc
-only_of (Neighbour n) t e = cc
-only_of Let t e = cc
-only_of Is t e = cc
-only_of (Name n) t e = cc
-only_of (Seat q) t e = absurd (cc)
-only_of (Suit s) t e = absurd (cc)
-only_of (Ranks h) t e = absurd (cc)
-only_of (Number n) t e = absurd (cc)
-only_of (Relation o) t e = absurd (cc)
-
--- a token that is the only one of its kind gives way to itself alone
-pub same : (x : Token) {y : Token} → only (kind_of x) ≡ Some x → kind_of x ≡ kind_of y → y ≡ x
-same x {y} h e = only_of y x (ap only (sym e) ∙ h)
-
-same_measure : (m : AMeasure) {y : Token} → kind_of (Measure m) ≡ kind_of y → y ≡ Measure m
-same_measure m e = same (Measure m) refl e
-
-like_number : (n : ℕ) (y : Token) → kind_of (Number n) ≡ kind_of y → (m : ℕ) × (y ≡ Number m)
-like_number n (Number m) e = (m, refl)
-like_number n y e = absurd (cc)
-
-like_seat : (q : ASeat) (y : Token) → kind_of (Seat q) ≡ kind_of y → (r : ASeat) × (y ≡ Seat r)
-like_seat q (Seat r) e = (r, refl)
-like_seat q y e = absurd (cc)
-
-pub same_class : (c : AClass) {y : Token} → kind_of (Class c) ≡ kind_of y → y ≡ Class c
-same_class c e = same (Class c) refl e
-
-same_quantifier : (k : AQuantifier) {y : Token} → kind_of (Quantifier k) ≡ kind_of y → y ≡ Quantifier k
-same_quantifier k e = same (Quantifier k) refl e
-
--- some suit that the token names
-abbrev SomeNamed : Bound → Token → Type 0
-SomeNamed E y = (r : ASuit) × Names E y r
-
-like_suit : (F : Bound) (s : ASuit) (y : Token) → kind_of (Suit s) ≡ kind_of y → SomeNamed F y
-like_suit F s (Suit r) e = (r, by_suit)
-like_suit F s y e = absurd (cc)
-
-class_named : (F : Bound) (c : AClass) (y : Token) → y ≡ Class c → (r : ASuit) × (bound_to F c ≡ Some r) → SomeNamed F y
-class_named F c y e r = (r.0, subst (λ x. Names F x r.0) (sym e) (by_class r.1))
-
-bound_is_some : {A : Type 0} (o : Option A) (s : A) → o ≡ Some s → is_some o ≡ true
-bound_is_some None s e = absurd (cc)
-bound_is_some (Some r) s e = refl
-
-like_named : {E F : Bound} → SameScope E F → {x : Token} {s : ASuit} → Names E x s → (y : Token) → kind_of x ≡ kind_of y → SomeNamed F y
-like_named {E} {F} f (by_suit {s}) y e = like_suit F s y e
-like_named {E} {F} f (by_class {c} {s} h) y e =
-    class_named F c y (same_class c e) (some_of (bound_to F c) (sym (suits_alike f c) ∙ bound_is_some (bound_to E c) s h))
-
-like_ranks : (h : Honours) (y : Token) → kind_of (Ranks h) ≡ kind_of y → (r : Honours) × (y ≡ Ranks r)
-like_ranks h (Ranks r) e = (r, refl)
-like_ranks h y e = absurd (cc)
-
-like_relation : (o : Op) (y : Token) → kind_of (Relation o) ≡ kind_of y → (p : Op) × (y ≡ Relation p)
-like_relation o (Relation p) e = (p, refl)
-like_relation o y e = absurd (cc)
-
-like_item : (i : Item) (y : Token) → kind_of (item_token i) ≡ kind_of y → (j : Item) × (y ≡ item_token j)
-like_item (Length n) y e = let m = like_number n y e in (Length m.0, m.1)
-like_item Any y e = (Any, same X refl e)
-
--- ---- a token between two lists
-
-pub record Between (L : List Token) (x : Token) (R U : List Token) : Type 0 where
-  pub left : List Token
-  pub token : Token
-  pub right : List Token
-  pub is : U ≡ left ++ token ∷ right
-  pub like_left : Alike L left
-  pub like : kind_of x ≡ kind_of token
-  pub like_right : Alike R right
-
-pub between : (L : List Token) (x : Token) (R U : List Token) → Alike (L ++ x ∷ R) U → Between L x R U
-between [] x R [] a = elim a [ ]
-between [] x R (y ∷ U) (more e a) = record { left = []; token = y; right = U; is = refl; like_left = none; like = e; like_right = a }
-between (z ∷ L) x R [] a = elim a [ ]
-between (z ∷ L) x R (y ∷ U) (more e a) =
-    let p = between L x R U a in
-    record {
-      left = y ∷ p.left;
-      token = p.token;
-      right = p.right;
-      is = ap (λ L. y ∷ L) p.is;
-      like_left = more e p.like_left;
-      like = p.like;
-      like_right = p.like_right;
-    }
-
--- the same, where the token between is the only one of its kind
-pub split_is : {L R U : List Token} {x : Token} (p : Between L x R U) → only (kind_of x) ≡ Some x → U ≡ p.left ++ x ∷ p.right
-split_is {L} {R} {U} {x} p h = p.is ∙ ap (λ y. p.left ++ y ∷ p.right) (same x h p.like)
-
--- two lists, one after the other
-pub record Parts (L R U : List Token) : Type 0 where
-  pub first : List Token
-  pub second : List Token
-  pub is : U ≡ first ++ second
-  pub like_first : Alike L first
-  pub like_second : Alike R second
-
-pub parts : (L R U : List Token) → Alike (L ++ R) U → Parts L R U
-parts [] R U a = record { first = []; second = U; is = refl; like_first = none; like_second = a }
-parts (z ∷ L) R [] a = elim a [ ]
-parts (z ∷ L) R (y ∷ U) (more e a) =
-    let p = parts L R U a in
-    record { first = y ∷ p.first; second = p.second; is = ap (λ L. y ∷ L) p.is; like_first = more e p.like_first; like_second = p.like_second }
-
-pub nothing_like : (U : List Token) → Alike [] U → U ≡ []
-nothing_like [] none = refl
-nothing_like (y ∷ U) a = elim a [ ]
-
--- a token that ends the list
-pub ends_with : {L U : List Token} {x : Token} (p : Between L x [] U) → only (kind_of x) ≡ Some x → U ≡ p.left ++ x ∷ []
-ends_with {L} {U} {x} p h = split_is p h ∙ ap (λ R. p.left ++ x ∷ R) (nothing_like p.right p.like_right)
+use Rattle.cond_lang.proofs.Scopes.{SameScope, bind_same, can_bind_same, some_of, members_some, seats_alike}
+use Rattle.cond_lang.proofs.AlikeTokens.{Alike, alike_refl, join, moved, same, same_measure, like_number, like_seat}
+use Rattle.cond_lang.proofs.AlikeTokens.{same_class, same_quantifier, bound_is_some, like_named, like_ranks}
+use Rattle.cond_lang.proofs.AlikeTokens.{like_relation, like_item, between, split_is, parts, ends_with, more, none}
 
 -- ---- seats
 
@@ -235,8 +52,11 @@ keep_seat {E} {F} f (by_bound {c} {q} w h) (more {y} e none) =
     (r.0, moved (λ L. SpellsSeat F L r.0) (join (same_class c e) refl) (by_bound w r.1))
 keep_seat {F} f (beside {n} {Q} w h) (more e0 (more {U} e1 a)) =
     let p = between Q Close [] U a in
-    let r = keep_seat f h p.like_left in
-    (seat_beside n r.0, moved (λ L. SpellsSeat F L (seat_beside n r.0)) (join (same (Neighbour n) refl e0) (join (same Open refl e1) (ends_with p refl))) (beside w r.1))
+    let r = keep_seat f h p.like_left in (
+      seat_beside n r.0,
+      moved (λ L. SpellsSeat F L (seat_beside n r.0))
+          (join (same (Neighbour n) refl e0) (join (same Open refl e1) (ends_with p refl))) (beside w r.1),
+    )
 
 -- ---- atoms
 
@@ -256,7 +76,8 @@ keep_count :
 keep_count f (measure {m}) e0 (more e1 none) = some_count (λ q. measured m q) (same_measure m e0) (join (same Close refl e1) refl) measure
 keep_count f (measure_in {m} i) e0 (more e1 (more {y = z} e2 (more e3 none))) =
     let t = like_named f i z e2 in
-    some_count (λ q. suit_measured m q t.0) (same_measure m e0) (join (same Comma refl e1) (join refl (join (same Close refl e3) refl))) (measure_in t.1)
+    some_count (λ q. suit_measured m q t.0) (same_measure m e0)
+    (join (same Comma refl e1) (join refl (join (same Close refl e3) refl))) (measure_in t.1)
 keep_count f (len i) e0 (more e1 (more {y = z} e2 (more e3 none))) =
     let t = like_named f i z e2 in
     some_count (λ q. suit_length q t.0) (same Len refl e0) (join (same Comma refl e1) (join refl (join (same Close refl e3) refl))) (len t.1)
@@ -300,13 +121,19 @@ keep_args {F} f (seat_arg {Q} h) (more {U} e a) =
     let r = keep_seat f h p.like_left in
     (choice Spades r.0, moved (λ L. SpellsArgs F OfSeat L (choice Spades r.0)) (join (same Open refl e) (ends_with p refl)) (seat_arg r.1))
 keep_args {F} f (suit_arg i) (more e0 (more {y = z} e1 (more e2 none))) =
-    let t = like_named f i z e1 in
-    (choice t.0 North, moved (λ L. SpellsArgs F OfSuit L (choice t.0 North)) (join (same Open refl e0) (join refl (join (same Close refl e2) refl))) (suit_arg t.1))
+    let t = like_named f i z e1 in (
+      choice t.0 North,
+      moved (λ L. SpellsArgs F OfSuit L (choice t.0 North))
+          (join (same Open refl e0) (join refl (join (same Close refl e2) refl))) (suit_arg t.1),
+    )
 keep_args {F} f (both_args {Q} {c} h i) (more {U} e a) =
     let p = between Q Comma (c ∷ Close ∷ []) U a in
     let r = keep_seat f h p.like_left in
-    let s = like_last f i p.right p.like_right in
-    (choice s.0 r.0, moved (λ L. SpellsArgs F OfBoth L (choice s.0 r.0)) (join (same Open refl e) (split_is p refl ∙ ap (λ R. p.left ++ Comma ∷ R) s.2.0)) (both_args r.1 s.2.1))
+    let s = like_last f i p.right p.like_right in (
+      choice s.0 r.0,
+      moved (λ L. SpellsArgs F OfBoth L (choice s.0 r.0))
+          (join (same Open refl e) (split_is p refl ∙ ap (λ R. p.left ++ Comma ∷ R) s.2.0)) (both_args r.1 s.2.1),
+    )
 
 -- the same names, and the same classes bound
 abbrev pub SameWords : Meanings → Meanings → Bound → Bound → Type 0
@@ -330,7 +157,8 @@ keep_atom {M} {F} f (multiple {n} w h) (more {y} e0 (more e1 a)) =
 abbrev pub SomeValue : Meanings → Bound → List Token → Type 0
 SomeValue N E T = (a : Amount) × SpellsValue N E T a
 
-pub keep_value : {N M : Meanings} {E F : Bound} {T U : List Token} {a : Amount} → SameWords N M E F → SpellsValue N E T a → Alike T U → SomeValue M F U
+pub keep_value : {N M : Meanings} {E F : Bound} {T U : List Token} {a : Amount} → SameWords N M E F
+    → SpellsValue N E T a → Alike T U → SomeValue M F U
 keep_value f (atom h) a = let k = keep_atom f h a in (k.0, atom k.1)
 keep_value {M} {F} {T} {U} f (plus {L} {R} l r) a =
     let p = between L Plus R U a in
@@ -393,13 +221,16 @@ keep_hand_test :
 keep_hand_test s is_balanced e0 (more e1 none) = some_hand_test (λ q. balanced q) (same Balanced refl e0) (join (same Close refl e1) refl) is_balanced
 keep_hand_test {S} s (has_shape a b c d) e h =
     let f = like_four a b c d S h in
-    some_hand_test (λ q. shaped q (f.first ∷ f.second ∷ f.third ∷ f.fourth ∷ [])) (same Shape refl e) f.is (has_shape f.first f.second f.third f.fourth)
+    some_hand_test (λ q. shaped q (f.first ∷ f.second ∷ f.third ∷ f.fourth ∷ [])) (same Shape refl e) f.is
+    (has_shape f.first f.second f.third f.fourth)
 keep_hand_test {S} s (has_pattern a b c d) e h =
     let f = like_four a b c d S h in
-    some_hand_test (λ q. patterned q (f.first ∷ f.second ∷ f.third ∷ f.fourth ∷ [])) (same Pattern refl e) f.is (has_pattern f.first f.second f.third f.fourth)
+    some_hand_test (λ q. patterned q (f.first ∷ f.second ∷ f.third ∷ f.fourth ∷ [])) (same Pattern refl e) f.is
+    (has_pattern f.first f.second f.third f.fourth)
 keep_hand_test s (has_stopper v i) e0 (more e1 (more {y = z} e2 (more e3 none))) =
     let t = like_named s i z e2 in
-    some_hand_test (λ q. stops q t.0) (same Stops refl e0) (join (same Comma refl e1) (join refl (join (same Close refl e3) refl))) (has_stopper v t.1)
+    some_hand_test (λ q. stops q t.0) (same Stops refl e0)
+    (join (same Comma refl e1) (join refl (join (same Close refl e3) refl))) (has_stopper v t.1)
 
 keep_test : {N M : Meanings} {E F : Bound} {T U : List Token} {t : Form} → SameWords N M E F → SpellsTest N E T t → Alike T U → SomeTest M F U
 keep_test {T} {U} f (comparison {L} {R} {a} {b} {o} l r) h =
@@ -438,7 +269,8 @@ SomeUnit N E T = (t : Form) × SpellsUnit N E T t
 abbrev pub SomeEach : Meanings → Bound → AClass → List Token → Type 0
 SomeEach N E c T = (t : Form) × (ts : List Form) × SpellsEach N E c (members E c) T (t ∷ ts)
 
-each_of : (N : Meanings) (E : Bound) (c : AClass) (T : List Token) → ((s : Choice) → SomeCond N (bind E c s) T) → (ss : List Choice) → (ts : List Form) × SpellsEach N E c ss T ts
+each_of : (N : Meanings) (E : Bound) (c : AClass) (T : List Token) → ((s : Choice) → SomeCond N (bind E c s) T)
+    → (ss : List Choice) → (ts : List Form) × SpellsEach N E c ss T ts
 each_of N E c T f [] = ([], no_more)
 each_of N E c T f (s ∷ ss) =
     let t = f s in

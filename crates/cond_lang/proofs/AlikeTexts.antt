@@ -9,10 +9,14 @@ use Rattle.cond_lang.specs.declared.scanner.Token.TheVariants.{Open, Close, Comm
 use Rattle.conditions.specs.Form.{Form}
 use Rattle.cond_lang.specs.Classes.{unbound, given}
 use Rattle.cond_lang.specs.Continuations.{kind_of}
-use Rattle.cond_lang.specs.Definitions.{HasParams, no_params, a_seat, a_suit, seat_and_suit, IsBody, a_condition, a_value, IsDefinition, defines, AreDefinitions, none as no_more, one_more, defined, Spells}
+use Rattle.cond_lang.specs.Definitions.{HasParams, no_params, a_seat, a_suit, seat_and_suit, IsBody, a_condition}
+use Rattle.cond_lang.specs.Definitions.{a_value, IsDefinition, defines, AreDefinitions, none as no_more, one_more}
+use Rattle.cond_lang.specs.Definitions.{defined, Spells}
 use Rattle.cond_lang.specs.Faults.{IsViable}
 use Rattle.cond_lang.specs.Grammar.{Meaning, Meanings, condition, value}
-use Rattle.cond_lang.proofs.Alike.{Alike, none, more, alike_refl, alike_append, join, moved, same, same_class, between, parts, ends_with, SomeCond, SomeValue, keep_cond, keep_value}
+use Rattle.cond_lang.proofs.AlikeTokens.{Alike, none, more, alike_refl, alike_append, join, moved, same, same_class}
+use Rattle.cond_lang.proofs.Alike.{SomeCond, SomeValue, keep_cond, keep_value}
+use Rattle.cond_lang.proofs.AlikeTokens.{between, parts, ends_with}
 use Rattle.cond_lang.proofs.LikeNames.{LikeMeaning, conditions, values, LikeNames, none as no_names, like_one_more, like_length}
 use Rattle.cond_lang.proofs.Scopes.{same_scope}
 
@@ -24,7 +28,8 @@ keep_params a_suit (more e0 (more e1 (more e2 none))) =
     moved (λ L. HasParams L OfSuit) (join (same Open refl e0) (join (same_class AnySuit e1) (join (same Close refl e2) refl))) a_suit
 keep_params seat_and_suit (more e0 (more e1 (more e2 (more e3 (more e4 none))))) =
     moved (λ L. HasParams L OfBoth)
-    (join (same Open refl e0) (join (same_class AnySeat e1) (join (same Comma refl e2) (join (same_class AnySuit e3) (join (same Close refl e4) refl)))))
+    (join (same Open refl e0) (join (same_class AnySeat e1)
+    (join (same Comma refl e2) (join (same_class AnySuit e3) (join (same Close refl e4) refl)))))
     seat_and_suit
 
 abbrev SomeBody : Meanings → Params → List Token → Meaning → Type 0
@@ -47,7 +52,8 @@ keep_definition {N} {M} l (defines {P} {T} {p} {m} h b) (more e0 a) =
     let params = keep_params h q.like_first in
     behind l (same (Name (length N)) refl e0) params b q.is q.like_second
   where
-    behind : {y : Token} {U Q R : List Token} → LikeNames N M → y ≡ Name (length N) → HasParams Q p → IsBody N p T m → U ≡ Q ++ R → Alike (Is ∷ Open ∷ T ++ Close ∷ []) R → SomeDefinition M (y ∷ U) m
+    behind : {y : Token} {U Q R : List Token} → LikeNames N M → y ≡ Name (length N) → HasParams Q p → IsBody N p T m
+        → U ≡ Q ++ R → Alike (Is ∷ Open ∷ T ++ Close ∷ []) R → SomeDefinition M (y ∷ U) m
     behind {y} {U} {Q} {R} l is params b cut (more e1 (more {U = S} e2 a)) =
         let r = between T Close [] S a in
         let k = keep_body l b r.like_left in

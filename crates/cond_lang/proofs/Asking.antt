@@ -1,6 +1,8 @@
 -- Questions: what a list asks, that it asks one thing at most, and that lists go wrong as questions where they do as
 -- conditions.
-use Rattle.std.proofs.Common.{◌≡◌, ℕ, ◌+◌, ◌<◌, ◌⊎◌, drop, take-append-drop, List, [], ◌∷◌, ◌++◌, length, take, Option, Some, None, Result, Ok, Err, IfErr, refl, sym, ap, ◌∙◌, subst, inl, inr, append_assoc, append-nil, arith}
+use Rattle.std.proofs.Common.{◌≡◌, ℕ, ◌+◌, ◌<◌, ◌⊎◌, drop, take-append-drop, List, [], ◌∷◌, ◌++◌, length, take}
+use Rattle.std.proofs.Common.{Option, Some, None, Result, Ok, Err, IfErr, refl, sym, ap, ◌∙◌, subst, inl, inr}
+use Rattle.std.proofs.Common.{append_assoc, append-nil, arith}
 use Rattle.std.specs.Prelude.{◌↔◌, IsTrue, Bool, true, false, MatchOption}
 use Rattle.std.specs.Prelude.{IfOk, is_some}
 use Rattle.std.proofs.lemmas.Bool.{false≢true}
@@ -99,7 +101,8 @@ same_viable T = (viable_condition T, viable_question T)
 pub is_value : (placed : List Placed) (S R : List Token) (a : Amount) → S ≡ kinds placed → whole_value S ≡ got a R → SpellsAmount (kinds placed) a
 is_value placed S R a e h = whole_value_right (kinds placed) R a (ap whole_value (sym e) ∙ h)
 
-pub no_value_stuck : (placed : List Placed) (S R : List Token) (b : Amount) → S ≡ kinds placed → whole_value S ≡ stuck R → SpellsAmount (kinds placed) b → ⊥
+pub no_value_stuck : (placed : List Placed) (S R : List Token) (b : Amount) → S ≡ kinds placed
+    → whole_value S ≡ stuck R → SpellsAmount (kinds placed) b → ⊥
 no_value_stuck placed S R b e h v =
     let x = whole_value_spelled v in
     let y : whole_value (kinds placed) ≡ stuck R = ap whole_value (sym e) ∙ h in
@@ -133,7 +136,8 @@ pub its_tokens_ask : (text : List ℕ) (xs ys : List Placed) (q : Question) → 
 its_tokens_ask text xs ys q h e s = subst (λ zs. Asks (kinds zs) q) (one_tokens text s.tokens xs s.cut h ∙ sym e) s.asks
 
 -- what a text asks is one question
-pub one_text_question : (text : List ℕ) (xs ys : List Placed) (p q : Question) → HasTokens text xs → ys ≡ xs → Asks (kinds ys) p → SpellsQuestion text q → p ≡ q
+pub one_text_question : (text : List ℕ) (xs ys : List Placed) (p q : Question) → HasTokens text xs → ys ≡ xs
+    → Asks (kinds ys) p → SpellsQuestion text q → p ≡ q
 one_text_question text xs ys p q h e s t =
     one_asked (kinds ys) p q s (its_tokens_ask text xs ys q h e t)
 
@@ -187,7 +191,8 @@ same_before_end T k b not_end w = (
   λ f. elim (follows_in_either T k f) [ inl c ↦ w.1 c | inr v ↦ absurd (not_end v.0) ],
 )
 
-pub in_default : (T : List Token) (k : Kind) (r : Result Bool CondError) → (k ≡ End → ⊥) → IfOk r (λ b. IsTrue b ↔ CanFollow T k) → IfOk r (λ b. IsTrue b ↔ CanFollowAsking T k)
+pub in_default : (T : List Token) (k : Kind) (r : Result Bool CondError) → (k ≡ End → ⊥)
+    → IfOk r (λ b. IsTrue b ↔ CanFollow T k) → IfOk r (λ b. IsTrue b ↔ CanFollowAsking T k)
 in_default T k (Ok b) not_end w = same_before_end T k b not_end w
 in_default T k (Err e) not_end w = tt
 
@@ -221,7 +226,8 @@ one_question_fault text a b f g =
     let same : g.tokens ≡ f.tokens = one_tokens text g.tokens f.tokens g.cut f.cut in
     let there : IsFirstAskFault (kinds f.tokens) g.place.0 = subst (λ ts. IsFirstAskFault (kinds ts) g.place.0) same g.place.1 in
     let n : f.place.0 ≡ g.place.0 =
-    one_longest (kinds f.tokens) f.place.0 g.place.0 (up_to_ask_fault (kinds f.tokens) f.place.0 f.place.1) (up_to_ask_fault (kinds f.tokens) g.place.0 there) in
+    one_longest (kinds f.tokens) f.place.0 g.place.0 (up_to_ask_fault (kinds f.tokens) f.place.0 f.place.1)
+    (up_to_ask_fault (kinds f.tokens) g.place.0 there) in
     f.place.2
     ∙ ap (λ n. offset_of f.tokens (length text) n) n
     ∙ ap (λ ts. offset_of ts (length text) g.place.0) (sym same)
@@ -250,7 +256,8 @@ value_or_fault text at f (inl v) = inl (asks_value v.0, record { tokens = f.toke
 value_or_fault text at f (inr none) = inr (at, place_of_question text f.tokens f.tokens at f.cut refl none f.place)
 
 -- A text with tokens asks a question, or has a fault.
-pub question_or_fault : (text : List ℕ) (ts : List Placed) → HasTokens text ts → ((q : Question) × SpellsQuestion text q) ⊎ ((at : ℕ) × HasAskFault text at)
+pub question_or_fault : (text : List ℕ) (ts : List Placed) → HasTokens text ts
+    → ((q : Question) × SpellsQuestion text q) ⊎ ((at : ℕ) × HasAskFault text at)
 question_or_fault text ts h =
     elim (tree_or_fault text ts h) [
       | inl s ↦ inl (asks_condition s.0, record { tokens = s.1.tokens; cut = s.1.cut; asks = s.1.spells })

@@ -1,5 +1,6 @@
 -- What the body of a name is read as.
-use Rattle.std.proofs.Common.{◌≡◌, ℕ, ◌≤◌, false, List, [], ◌∷◌, ◌++◌, Option, Some, None, slice_get, length, drop, refl, sym, ap, ◌∙◌, subst, append_assoc, length-append, le_trans, arith}
+use Rattle.std.proofs.Common.{◌≡◌, ℕ, ◌≤◌, false, List, [], ◌∷◌, ◌++◌, Option, Some, None, slice_get, length, drop}
+use Rattle.std.proofs.Common.{refl, sym, ap, ◌∙◌, subst, append_assoc, length-append, le_trans, arith}
 use Rattle.std.proofs.Math.Path.{fun_ext}
 use Rattle.std.proofs.lemmas.List.{append_cancel_left, append_cancel_right}
 use Rattle.cond_lang.specs.declared.classes.Bound.{Bound}
@@ -14,7 +15,10 @@ use Rattle.cond_lang.specs.Classes.{unbound, given}
 use Rattle.cond_lang.specs.Definitions.{IsBody, a_condition, a_value as a_value_body}
 use Rattle.cond_lang.specs.Grammar.{Meaning, Meanings, condition, value, SpellsCond, SpellsValue}
 use Rattle.cond_lang.specs.internal.Defining.{first, tree_read, amount_read, as_condition, as_value, ends_body, body_by, body}
-use Rattle.cond_lang.specs.internal.Reading.{Outcome, got, stuck, Reader, after, front, Goal, Of, a_cond, a_both, a_unit, a_value, ors, ands, comparing_by, related_by, atom_of, number_or_count, count_of, value_used, condition_used_by, unit_by, sums, reading}
+use Rattle.cond_lang.specs.internal.Reading.{Outcome, got, stuck, Reader, after, front, Goal, Of, a_cond, a_both}
+use Rattle.cond_lang.specs.internal.Reading.{a_unit, a_value, ors, ands, comparing_by, related_by, atom_of}
+use Rattle.cond_lang.specs.internal.Reading.{number_or_count, count_of, value_used, condition_used_by, unit_by, sums}
+use Rattle.cond_lang.specs.internal.Reading.{reading}
 use Rattle.cond_lang.proofs.Alike.{SomeCond, spelled_with}
 use Rattle.cond_lang.proofs.Enough.{reads, reading_reads}
 use Rattle.cond_lang.proofs.Scopes.{SameScope, same_scope, bind_same}
@@ -28,7 +32,8 @@ use Rattle.cond_lang.proofs.Steps.{Means, related, sample, sampled, sample_cond}
 short_reading : (N : Meanings) (E : Bound) (g : Goal) (S : List Token) → length (rest (reading N E g S)) ≤ length S
 short_reading N E g S = let h = reading_reads N E g S in omega (arith, ap length h.cut, length-append h.done (rest (reading N E g S)))
 
-after_shorter : {A B : Type 0} (o : Outcome A) (f : A → Reader B) → ((x : A) (R : List Token) → length (rest (f x R)) ≤ length R) → length (rest (after o f)) ≤ length (rest o)
+after_shorter : {A B : Type 0} (o : Outcome A) (f : A → Reader B)
+    → ((x : A) (R : List Token) → length (rest (f x R)) ≤ length R) → length (rest (after o f)) ≤ length (rest o)
 after_shorter (got x R) f h = h x R
 after_shorter (stuck R) f h = omega arith
 
@@ -60,13 +65,16 @@ module _ (N : Meanings) (E : Bound) where
   used_farther n S (Some (condition p f)) e =
       not_begun (Name n ∷ S) (reads N E a_value (Name n ∷ S) ∙ ap (λ m. after (value_used m E n S) (λ a R. reading N E (sums a) R)) e)
   used_farther n S (Some (value p f)) e =
-      subst (λ o. length (rest o) ≤ length (rest (reading N E a_value (Name n ∷ S)))) (sym (reads N E a_unit (Name n ∷ S) ∙ ap (λ m. condition_used_by m (reading N) E n S) e))
+      subst (λ o. length (rest o) ≤ length (rest (reading N E a_value (Name n ∷ S))))
+      (sym (reads N E a_unit (Name n ∷ S) ∙ ap (λ m. condition_used_by m (reading N) E n S) e))
       (comparing_farther (Name n ∷ S))
   used_farther n S None e =
-      subst (λ o. length (rest o) ≤ length (rest (reading N E a_value (Name n ∷ S)))) (sym (reads N E a_unit (Name n ∷ S) ∙ ap (λ m. condition_used_by m (reading N) E n S) e))
+      subst (λ o. length (rest o) ≤ length (rest (reading N E a_value (Name n ∷ S))))
+      (sym (reads N E a_unit (Name n ∷ S) ∙ ap (λ m. condition_used_by m (reading N) E n S) e))
       (comparing_farther (Name n ∷ S))
 
-  compares_farther : (S : List Token) → unit_by N (reading N) E S ≡ comparing_by (reading N) E S → length (rest (reading N E a_unit S)) ≤ length (rest (reading N E a_value S))
+  compares_farther : (S : List Token) → unit_by N (reading N) E S ≡ comparing_by (reading N) E S
+      → length (rest (reading N E a_unit S)) ≤ length (rest (reading N E a_value S))
   compares_farther S e = subst (λ o. length (rest o) ≤ length (rest (reading N E a_value S))) (sym (reads N E a_unit S ∙ e)) (comparing_farther S)
 
   unit_farther : (S : List Token) → length (rest (reading N E a_unit S)) ≤ length (rest (reading N E a_value S))
@@ -179,7 +187,8 @@ module _ (N : Meanings) (p : Params) where
             a_value_body (λ x. subst (λ b. SpellsValue N (given p x) D b) (sym (ap amount_read ((each x).read (Close ∷ R) refl))) (each x).spelled);
       })
     where
-      ends_at : (X : List Token) → front X ≡ Some Close → ((x : Choice) → EachRead N p a_value D (Close ∷ R) x) → body_by N p (as_a_value (D ++ X)) (D ++ X) ≡ got (as_value N p (D ++ Close ∷ R)) X
+      ends_at : (X : List Token) → front X ≡ Some Close → ((x : Choice) → EachRead N p a_value D (Close ∷ R) x)
+          → body_by N p (as_a_value (D ++ X)) (D ++ X) ≡ got (as_value N p (D ++ Close ∷ R)) X
       ends_at [] i each = absurd (cc)
       ends_at (c ∷ X) i each =
           let k : c ≡ Close = cc in
@@ -194,7 +203,8 @@ module _ (N : Meanings) (p : Params) where
       ap (λ f. condition p f) (fun_ext (λ x. ap tree_read ((each x).read X i) ∙ sym (ap tree_read ((each x).read R refl))))
 
   -- what isn't a value whose bracket ends it is read as a condition
-  pub as_other : (o : Outcome Amount) (S : List Token) → ends_body o ≡ false → body_by N p o S ≡ after (as_a_cond S) (λ _ R. got (as_condition N p S) R)
+  pub as_other : (o : Outcome Amount) (S : List Token) → ends_body o ≡ false
+      → body_by N p o S ≡ after (as_a_cond S) (λ _ R. got (as_condition N p S) R)
   as_other (got a (Close ∷ R)) S e = absurd (cc)
   as_other (got a []) S e = refl
   as_other (got a (c ∷ R)) S e = refl
@@ -226,7 +236,8 @@ module _ (N : Meanings) (p : Params) where
       let h = reading_reads N (given p first) a_value S in
       let m : List Token = drop (length h.done) D in
       let more : D ≡ h.done ++ m = further_part h.done (rest (as_a_value S)) D R (sym h.cut ∙ cut) few in
-      let left : rest (as_a_value S) ≡ m ++ R = append_cancel_left h.done (rest (as_a_value S)) (m ++ R) (sym h.cut ∙ cut ∙ ap (λ D. D ++ R) more ∙ append_assoc h.done m R) in
+      let left : rest (as_a_value S) ≡ m ++ R = append_cancel_left h.done (rest (as_a_value S)) (m ++ R)
+      (sym h.cut ∙ cut ∙ ap (λ D. D ++ R) more ∙ append_assoc h.done m R) in
       record {
         between = m;
         left = left;
@@ -252,7 +263,8 @@ module _ (N : Meanings) (p : Params) where
   reads_other_body S (stuck R) e other =
       let h : Reads (SpellsCond N (given p first)) as_a_cond S (stuck R) =
       subst (λ o. Reads (SpellsCond N (given p first)) as_a_cond S o) e (reading_reads N (given p first) a_cond S) in
-      let few : length R ≤ length (rest (as_a_value S)) = subst (λ o. length (rest o) ≤ length (rest (as_a_value S))) e (value_first N (given p first) S) in
+      let few : length R ≤ length (rest (as_a_value S)) =
+      subst (λ o. length (rest o) ≤ length (rest (as_a_value S))) e (value_first N (given p first) S) in
       let each : (x : Choice) → SomeCond N (given p x) (h.done ++ h.right.0) = λ x. spelled_with (given_same p first x) h.right.2 in
       record {
         done = h.done;
@@ -263,7 +275,8 @@ module _ (N : Meanings) (p : Params) where
   reads_other_body S (got t R) e other =
       let h : Reads (SpellsCond N (given p first)) as_a_cond S (got t R) =
       subst (λ o. Reads (SpellsCond N (given p first)) as_a_cond S o) e (reading_reads N (given p first) a_cond S) in
-      let few : length R ≤ length (rest (as_a_value S)) = subst (λ o. length (rest o) ≤ length (rest (as_a_value S))) e (value_first N (given p first) S) in
+      let few : length R ≤ length (rest (as_a_value S)) =
+      subst (λ o. length (rest o) ≤ length (rest (as_a_value S))) e (value_first N (given p first) S) in
       let each : (x : Choice) → EachRead N p a_cond h.done R x =
       each_read N p a_cond (conds_same N p) h.done R (ap shape (ap as_a_cond (sym h.cut) ∙ e)) in
       let is : as_condition N p S ≡ as_condition N p (h.done ++ R) = ap (as_condition N p) h.cut in
@@ -301,9 +314,11 @@ module _ (N : Meanings) (p : Params) where
 -- ---- a body is read
 
 -- a value before a bracket is no condition
-no_condition : (N : Meanings) (E : Bound) (S R : List Token) (a : Amount) → reading N E a_value S ≡ got a (Close ∷ R) → reading N E a_cond S ≡ stuck (Close ∷ R)
+no_condition : (N : Meanings) (E : Bound) (S R : List Token) (a : Amount) → reading N E a_value S ≡ got a (Close ∷ R)
+    → reading N E a_cond S ≡ stuck (Close ∷ R)
 no_condition N E S R a e =
-    let h : Reads (SpellsValue N E) (reading N E a_value) S (got a (Close ∷ R)) = subst (λ o. Reads (SpellsValue N E) (reading N E a_value) S o) e (reading_reads N E a_value S) in
+    let h : Reads (SpellsValue N E) (reading N E a_value) S (got a (Close ∷ R)) =
+    subst (λ o. Reads (SpellsValue N E) (reading N E a_value) S o) e (reading_reads N E a_value S) in
     let as_unit : reading N E a_unit S ≡ stuck (Close ∷ R) =
     reads N E a_unit S
     ∙ ap (unit_by N (reading N) E) h.cut
@@ -313,21 +328,27 @@ no_condition N E S R a e =
     let as_both : reading N E a_both S ≡ stuck (Close ∷ R) = reads N E a_both S ∙ ap (λ o. after o (λ a R. reading N E (ands a) R)) as_unit in
     reads N E a_cond S ∙ ap (λ o. after o (λ a R. reading N E (ors a) R)) as_both
 
-no_value_ends : (N : Meanings) (E : Bound) (S R : List Token) (t : Form) (o : Outcome Amount) → reading N E a_cond S ≡ got t R → reading N E a_value S ≡ o → ends_body o ≡ false
+no_value_ends : (N : Meanings) (E : Bound) (S R : List Token) (t : Form) (o : Outcome Amount)
+    → reading N E a_cond S ≡ got t R → reading N E a_value S ≡ o → ends_body o ≡ false
 no_value_ends N E S R t (got a (Close ∷ Q)) e i = let k = no_condition N E S Q a i in absurd (cc)
 no_value_ends N E S R t (got a []) e i = refl
 no_value_ends N E S R t (got a (c ∷ Q)) e i = refl
 no_value_ends N E S R t (stuck Q) e i = refl
 
-pub body_read : {N : Meanings} {p : Params} {T : List Token} {m : Meaning} → IsBody N p T m → (B : List Token) → body N p (T ++ Close ∷ B) ≡ got m (Close ∷ B)
+pub body_read : {N : Meanings} {p : Params} {T : List Token} {m : Meaning} → IsBody N p T m → (B : List Token)
+    → body N p (T ++ Close ∷ B) ≡ got m (Close ∷ B)
 unfolding body
 body_read {N} {p} (a_value_body {T} {f} h) B =
-    let each : (x : Choice) → reading N (given p x) a_value (T ++ Close ∷ B) ≡ got (f x) (Close ∷ B) = λ x. value_read (h x) (Close ∷ B) (λ e. cc, λ e. cc) in
+    let each : (x : Choice) → reading N (given p x) a_value (T ++ Close ∷ B) ≡ got (f x) (Close ∷ B) =
+    λ x. value_read (h x) (Close ∷ B) (λ e. cc, λ e. cc) in
     ap (λ o. body_by N p o (T ++ Close ∷ B)) (each first)
     ∙ ap (λ f. got (value p f) (Close ∷ B)) (fun_ext (λ x. ap amount_read (each x)))
 body_read {N} {p} (a_condition {T} {f} h) B =
     let S : List Token = T ++ Close ∷ B in
-    let each : (x : Choice) → reading N (given p x) a_cond S ≡ got (f x) (Close ∷ B) = λ x. cond_read (h x) (Close ∷ B) (λ e. cc) (λ e. cc) (λ e. cc, λ e. cc) in
-    as_other N p (reading N (given p first) a_value S) S (no_value_ends N (given p first) S (Close ∷ B) (f first) (reading N (given p first) a_value S) (each first) refl)
+    let each : (x : Choice) → reading N (given p x) a_cond S ≡ got (f x) (Close ∷ B) =
+    λ x. cond_read (h x) (Close ∷ B) (λ e. cc) (λ e. cc) (λ e. cc, λ e. cc) in
+    as_other N p (reading N (given p first) a_value S) S
+    (no_value_ends N (given p first) S (Close ∷ B) (f first) (reading N (given p first) a_value S) (each first)
+    refl)
     ∙ ap (λ o. after o (λ _ R. got (as_condition N p S) R)) (each first)
     ∙ ap (λ f. got (condition p f) (Close ∷ B)) (fun_ext (λ x. ap tree_read (each x)))

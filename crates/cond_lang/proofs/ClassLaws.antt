@@ -19,7 +19,12 @@ use Rattle.conditions.specs.declared.tree.Count.{Count}
 use Rattle.conditions.specs.Form.{Amount, Form, any_of, all_of, negation}
 use Rattle.conditions.specs.Meaning.{holds}
 use Rattle.cond_lang.specs.Classes.{bind, can_bind, choice, members, seat_beside}
-use Rattle.cond_lang.specs.Grammar.{Meanings, named_value, named_condition, a_count, multiple, SpellsCount, SpellsAtom, SpellsValue, atom, plus, a_number, count, measure, measure_in, len, cards, cards_in, longest_suit, second_suit, shortest_suit, SpellsCond, both, unit, SpellsUnit, not as negated, brackets, quantified, test, SpellsEach, none, one_more, joined, SpellsTest, comparison, in_range, of_hand, is_balanced, has_shape, has_pattern, has_stopper}
+use Rattle.cond_lang.specs.Grammar.{Meanings, named_value, named_condition, a_count, multiple, SpellsCount}
+use Rattle.cond_lang.specs.Grammar.{SpellsAtom, SpellsValue, atom, plus, a_number, count, measure, measure_in, len}
+use Rattle.cond_lang.specs.Grammar.{cards, cards_in, longest_suit, second_suit, shortest_suit, SpellsCond, both, unit}
+use Rattle.cond_lang.specs.Grammar.{SpellsUnit, not as negated, brackets, quantified, test, SpellsEach, none}
+use Rattle.cond_lang.specs.Grammar.{one_more, joined, SpellsTest, comparison, in_range, of_hand, is_balanced}
+use Rattle.cond_lang.specs.Grammar.{has_shape, has_pattern, has_stopper}
 use Rattle.cond_lang.specs.internal.Reading.{front}
 use Rattle.cond_lang.proofs.Quantified.{AreEach}
 
@@ -36,13 +41,15 @@ count_front longest_suit k = λ e. cc
 count_front (second_suit w) k = λ e. cc
 count_front shortest_suit k = λ e. cc
 
-atom_front : {N : Meanings} {E : Bound} {L : List Token} {a : Amount} → SpellsAtom N E L a → (X : List Token) (k : AQuantifier) → front (L ++ X) ≢ Some (Quantifier k)
+atom_front : {N : Meanings} {E : Bound} {L : List Token} {a : Amount} → SpellsAtom N E L a
+    → (X : List Token) (k : AQuantifier) → front (L ++ X) ≢ Some (Quantifier k)
 atom_front a_number X k = λ e. cc
 atom_front (a_count (count h s)) X k = count_front h k
 atom_front (multiple w h) X k = λ e. cc
 atom_front (named_value i h) X k = λ e. cc
 
-value_front : {N : Meanings} {E : Bound} {L : List Token} {a : Amount} → SpellsValue N E L a → (X : List Token) (k : AQuantifier) → front (L ++ X) ≢ Some (Quantifier k)
+value_front : {N : Meanings} {E : Bound} {L : List Token} {a : Amount} → SpellsValue N E L a
+    → (X : List Token) (k : AQuantifier) → front (L ++ X) ≢ Some (Quantifier k)
 value_front (atom h) X k = atom_front h X k
 value_front (plus {L} {R} l r) X k = rw (append_assoc L (Plus ∷ R) X) (value_front l (Plus ∷ (R ++ X)) k)
 
@@ -78,7 +85,8 @@ quantifies {N} {E} (quantified {k = j} {c = d} {T = S} {t} {ts} w b each) k c T 
 quantifies (test h) k c T e = absurd (test_front h k (ap front e))
 
 pub quantified_is :
-    (N : Meanings) (E : Bound) (k : AQuantifier) (c : AClass) (T : List Token) (t : Form) → SpellsUnit N E (Quantifier k ∷ Class c ∷ Open ∷ T ++ Close ∷ []) t
+    (N : Meanings) (E : Bound) (k : AQuantifier) (c : AClass) (T : List Token) (t : Form)
+    → SpellsUnit N E (Quantifier k ∷ Class c ∷ Open ∷ T ++ Close ∷ []) t
     → IsQuantified N E k c T t
 quantified_is N E k c T t h = quantifies h k c T refl
 
@@ -88,7 +96,8 @@ WithOneOf c x y N E T t =
     (can_bind E c ≡ true)
     × ((a : Form) × (b : Form) × SpellsCond N (bind E c x) T a × SpellsCond N (bind E c y) T b × (t ≡ any_of a b))
 
-two_each : (N : Meanings) (E : Bound) (c : AClass) (x y : Choice) (T : List Token) (t u : Form) (us : List Form) → SpellsEach N E c (x ∷ y ∷ []) T (u ∷ us) → t ≡ fold (joined Any) u us
+two_each : (N : Meanings) (E : Bound) (c : AClass) (x y : Choice) (T : List Token) (t u : Form) (us : List Form)
+    → SpellsEach N E c (x ∷ y ∷ []) T (u ∷ us) → t ≡ fold (joined Any) u us
     → (a : Form) × (b : Form) × SpellsCond N (bind E c x) T a × SpellsCond N (bind E c y) T b × (t ≡ any_of a b)
 two_each N E c x y T t u us (one_more {t = a} h (one_more {t = b} g none)) e = (a, b, h, g, e)
 
@@ -109,7 +118,8 @@ majors N E T t = any_of_two Major (choice Spades North) (choice Hearts East) N E
 
 pub north_or_south :
     (N : Meanings) (E : Bound) (T : List Token) (t : Form)
-    → SpellsUnit N E (Quantifier Any ∷ Class NorthSouth ∷ Open ∷ T ++ Close ∷ []) t ↔ WithOneOf NorthSouth (choice Spades North) (choice Diamonds South) N E T t
+    → SpellsUnit N E (Quantifier Any ∷ Class NorthSouth ∷ Open ∷ T ++ Close ∷ []) t ↔ WithOneOf NorthSouth
+    (choice Spades North) (choice Diamonds South) N E T t
 north_or_south N E T t = any_of_two NorthSouth (choice Spades North) (choice Diamonds South) N E refl T t
 
 -- the partner of a seat's partner is the seat

@@ -1,5 +1,6 @@
 -- The parts of a body with the arguments of each place.
-use Rattle.std.proofs.Common.{◌≡◌, ℕ, ◌+◌, ◌<◌, Bool, true, false, List, Some, length, get_or, set, get_or-set_same, get_or-set_other, length-set, refl, sym, ap, ◌∙◌, subst, inl, inr, arith}
+use Rattle.std.proofs.Common.{◌≡◌, ℕ, ◌+◌, ◌<◌, Bool, true, false, List, Some, length, get_or, set, get_or-set_same}
+use Rattle.std.proofs.Common.{get_or-set_other, length-set, refl, sym, ap, ◌∙◌, subst, inl, inr, arith}
 use Rattle.std.proofs.lemmas.Bool.{cases_eq}
 use Rattle.std.proofs.lemmas.Option.{slice_get-get_or}
 use Rattle.cards.specs.Pack.{suit_number, seat_number}
@@ -78,7 +79,8 @@ module _ (N : Meanings) (p : Params) (is_value : Bool) (S : List Token) where
 
   -- a place that is none of an argument
   pub not_counted :
-      (parts : List ℕ) (n : ℕ) → is_argument p (argument_at n) ≡ false → CountedBelow N p is_value S parts n → CountedBelow N p is_value S parts (n + 1)
+      (parts : List ℕ) (n : ℕ) → is_argument p (argument_at n) ≡ false → CountedBelow N p is_value S parts n
+      → CountedBelow N p is_value S parts (n + 1)
   not_counted parts n e h =
       record {
         sixteen = h.sixteen;

@@ -1,5 +1,7 @@
 -- Reading definitions, and texts that begin with them.
-use Rattle.std.proofs.Common.{◌≡◌, ◌≢◌, ℕ, zero, suc, ◌+◌, ◌<◌, ◌≤◌, ◌==◌, Bool, true, false, cond, List, [], ◌∷◌, ◌++◌, Some, length, refl, sym, ap, ◌∙◌, subst, append_assoc, append-nil, length-append, arith}
+use Rattle.std.proofs.Common.{◌≡◌, ◌≢◌, ℕ, zero, suc, ◌+◌, ◌<◌, ◌≤◌, ◌==◌, Bool, true, false, cond, List, [], ◌∷◌}
+use Rattle.std.proofs.Common.{◌++◌, Some, length, refl, sym, ap, ◌∙◌, subst, append_assoc, append-nil, length-append}
+use Rattle.std.proofs.Common.{arith}
 use Rattle.std.proofs.lemmas.Bool.Decides.{nat_tests}
 use Rattle.std.proofs.lemmas.List.{append_cancel_right}
 use Rattle.cond_lang.specs.declared.classes.Bound.{Bound}
@@ -10,10 +12,15 @@ use Rattle.cond_lang.specs.declared.scanner.Token.{Token}
 use Rattle.cond_lang.specs.declared.scanner.Token.TheVariants.{Number, Class, Open, Close, Comma, Let, Is, Name}
 use Rattle.conditions.specs.Form.{Amount, Form, number}
 use Rattle.cond_lang.specs.Classes.{unbound}
-use Rattle.cond_lang.specs.Definitions.{HasParams, no_params, a_seat, a_suit, seat_and_suit, IsBody, IsDefinition, defines, AreDefinitions, none, one_more, defined, Spells, SpellsAmount}
+use Rattle.cond_lang.specs.Definitions.{HasParams, no_params, a_seat, a_suit, seat_and_suit, IsBody, IsDefinition}
+use Rattle.cond_lang.specs.Definitions.{defines, AreDefinitions, none, one_more, defined, Spells, SpellsAmount}
 use Rattle.cond_lang.specs.Grammar.{Meaning, Meanings, SpellsCond, SpellsValue, atom, a_number}
-use Rattle.cond_lang.specs.internal.Defining.{new_name, word_is, word_suit, behind_seat, param, params, body, is_body, definition, definitions_by, definitions, ended, definitions_alone, cond_alone, value_alone, whole, whole_value}
-use Rattle.cond_lang.specs.internal.Reading.{Outcome, got, stuck, Reader, after, front, opened, closing, a_cond, a_both, a_unit, a_value, ors, ands, related_by, atom_of, number_or_count, count_of, reading}
+use Rattle.cond_lang.specs.internal.Defining.{new_name, word_is, word_suit, behind_seat, param, params, body, is_body}
+use Rattle.cond_lang.specs.internal.Defining.{definition, definitions_by, definitions, ended, definitions_alone}
+use Rattle.cond_lang.specs.internal.Defining.{cond_alone, value_alone, whole, whole_value}
+use Rattle.cond_lang.specs.internal.Reading.{Outcome, got, stuck, Reader, after, front, opened, closing, a_cond}
+use Rattle.cond_lang.specs.internal.Reading.{a_both, a_unit, a_value, ors, ands, related_by, atom_of, number_or_count}
+use Rattle.cond_lang.specs.internal.Reading.{count_of, reading}
 use Rattle.cond_lang.proofs.Bodies.{some_body, reads_body, body_read}
 use Rattle.cond_lang.proofs.Enough.{after_same, reads, reading_reads}
 use Rattle.cond_lang.proofs.Sequences.{Reads, HasSome, rest, onto, reads_after, reads_token, gets_token, gets_at, gets_at_end, stops_at, stops_at_end}
@@ -29,8 +36,10 @@ equal n m h = grind (arith, nat_tests)
 equal_itself : (n : ℕ) → (n == n) ≡ true
 equal_itself n = grind (arith, nat_tests)
 
-reads_this_name : (k n : ℕ) (S : List Token) (b : Bool) → (n == k) ≡ b → Reads (λ P _. P ≡ Name k ∷ []) (new_name k) (Name n ∷ S) (cond b (got tt S) (stuck (Name n ∷ S)))
-reads_this_name k n S true e = gets_token _ (Name n) (new_name k) S tt (ap (λ n. Name n ∷ []) (equal n k e)) (λ X. ap (λ b. cond b (got tt X) (stuck (Name n ∷ X))) e)
+reads_this_name : (k n : ℕ) (S : List Token) (b : Bool) → (n == k) ≡ b
+    → Reads (λ P _. P ≡ Name k ∷ []) (new_name k) (Name n ∷ S) (cond b (got tt S) (stuck (Name n ∷ S)))
+reads_this_name k n S true e = gets_token _ (Name n) (new_name k) S tt (ap (λ n. Name n ∷ []) (equal n k e))
+    (λ X. ap (λ b. cond b (got tt X) (stuck (Name n ∷ X))) e)
 reads_this_name k n S false e = stops_at _ (Name n) (new_name k) S (Name k ∷ [], tt, refl) (λ X. ap (λ b. cond b (got tt X) (stuck (Name n ∷ X))) e)
 
 reads_new_name : (k : ℕ) (S : List Token) → Reads (λ P _. P ≡ Name k ∷ []) (new_name k) S (new_name k S)
@@ -55,14 +64,16 @@ InBrackets P p = HasParams (Open ∷ P ++ Close ∷ []) p
 reads_behind_seat : (S : List Token) → Reads (λ P. InBrackets (Class AnySeat ∷ P)) behind_seat S (behind_seat S)
 reads_behind_seat [] = gets_at_end _ behind_seat OfSeat a_seat refl
 reads_behind_seat (Comma ∷ S) =
-    reads_token (λ P. InBrackets (Class AnySeat ∷ Comma ∷ P)) (λ P. InBrackets (Class AnySeat ∷ P)) Comma (λ S. after (word_suit S) (λ _ R. got OfBoth R)) behind_seat S _ (λ P x m. m) (λ X. refl)
+    reads_token (λ P. InBrackets (Class AnySeat ∷ Comma ∷ P)) (λ P. InBrackets (Class AnySeat ∷ P)) Comma
+    (λ S. after (word_suit S) (λ _ R. got OfBoth R)) behind_seat S _ (λ P x m. m) (λ X. refl)
     (reads_then (λ _. Class AnySuit ∷ []) (λ P. InBrackets (Class AnySeat ∷ Comma ∷ P)) word_suit (λ _ R. got OfBoth R) S (word_suit S)
     (λ _. ([], OfBoth, seat_and_suit)) (reads_word_suit S) (λ _ R. gets _ OfBoth R seat_and_suit))
 reads_behind_seat (c ∷ S) = gets_at _ c behind_seat S OfSeat a_seat (λ X. refl)
 
 reads_param : (S : List Token) → Reads InBrackets param S (param S)
 reads_param [] = stops_at_end _ param (Class AnySeat ∷ [], OfSeat, a_seat) refl
-reads_param (Class AnySeat ∷ S) = reads_token (λ P. InBrackets (Class AnySeat ∷ P)) _ (Class AnySeat) behind_seat param S _ (λ P x m. m) (λ X. refl) (reads_behind_seat S)
+reads_param (Class AnySeat ∷ S) = reads_token (λ P. InBrackets (Class AnySeat ∷ P)) _ (Class AnySeat) behind_seat
+    param S _ (λ P x m. m) (λ X. refl) (reads_behind_seat S)
 reads_param (Class AnySuit ∷ S) = gets_token _ (Class AnySuit) param S OfSuit a_suit (λ X. refl)
 reads_param (c ∷ S) = stops_at _ c param S (Class AnySeat ∷ [], OfSeat, a_seat) (λ X. refl)
 
@@ -104,7 +115,8 @@ some_defined N = let some = some_body_in N Plain in (some.0, some.1, joined_defi
 pub reads_definition : (N : Meanings) (S : List Token) → Reads (IsDefinition N) (definition N) S (definition N S)
 unfolding definition
 reads_definition N S =
-    reads_then (λ _. Name (length N) ∷ []) (IsDefinition N) (new_name (length N)) (λ _ S. after (params S) (λ p S. is_body N p S)) S (new_name (length N) S)
+    reads_then (λ _. Name (length N) ∷ []) (IsDefinition N) (new_name (length N))
+    (λ _ S. after (params S) (λ p S. is_body N p S)) S (new_name (length N) S)
     (λ _. some_defined N) (reads_new_name (length N) S)
     (λ _ S. reads_after HasParams (IsBodyIn N) (IsDefinedBy N) params (is_body N) S (params S)
     (joined_definition N) (some_body_in N) (reads_params S) (reads_is_body N))
@@ -116,8 +128,10 @@ unfolding definitions_by
 reads_definitions_by zero N S = record { done = []; cut = refl; same = λ X i. refl; right = ([], N, none) }
 reads_definitions_by (suc n) N [] = gets_at_end _ (definitions_by (suc n) N) N none refl
 reads_definitions_by (suc n) N (Let ∷ S) =
-    reads_token (λ P. AreDefinitions N (Let ∷ P)) _ Let (λ S. after (definition N S) (λ m R. definitions_by n (N ++ m ∷ []) R)) (definitions_by (suc n) N) S _ (λ P x m. m) (λ X. refl)
-    (reads_after (IsDefinition N) (λ m. AreDefinitions (N ++ m ∷ [])) (λ P. AreDefinitions N (Let ∷ P)) (definition N) (λ m R. definitions_by n (N ++ m ∷ []) R) S (definition N S)
+    reads_token (λ P. AreDefinitions N (Let ∷ P)) _ Let (λ S. after (definition N S)
+    (λ m R. definitions_by n (N ++ m ∷ []) R)) (definitions_by (suc n) N) S _ (λ P x m. m) (λ X. refl)
+    (reads_after (IsDefinition N) (λ m. AreDefinitions (N ++ m ∷ [])) (λ P. AreDefinitions N (Let ∷ P)) (definition N)
+    (λ m R. definitions_by n (N ++ m ∷ []) R) S (definition N S)
     (λ P Q m M h k. one_more h k) (λ m. ([], N ++ m ∷ [], none)) (reads_definition N S) (λ m R. reads_definitions_by n (N ++ m ∷ []) R))
 reads_definitions_by (suc n) N (c ∷ S) = gets_at _ c (definitions_by (suc n) N) S N none (λ X. refl)
 
@@ -144,7 +158,8 @@ same_definitions :
 same_definitions N S D X o e cut f =
     let n : ℕ = suc (length S + length (D ++ X)) in
     let i : definitions_by n N S ≡ o = sym (definitions-by n N S (omega arith)) ∙ e in
-    let h : Reads (AreDefinitions N) (definitions_by n N) S o = subst (λ o. Reads (AreDefinitions N) (definitions_by n N) S o) i (reads_definitions_by n N S) in
+    let h : Reads (AreDefinitions N) (definitions_by n N) S o =
+    subst (λ o. Reads (AreDefinitions N) (definitions_by n N) S o) i (reads_definitions_by n N S) in
     let d : D ≡ h.done = append_cancel_right D h.done (rest o) (sym cut ∙ h.cut) in
     definitions-by n N (D ++ X) (omega arith) ∙ ap (λ D. definitions_by n N (D ++ X)) d ∙ h.same X f
 
@@ -152,7 +167,8 @@ pub reads_definitions : (N : Meanings) (S : List Token) → Reads (AreDefinition
 reads_definitions N S =
     let n : ℕ = suc (length S) in
     let i : definitions_by n N S ≡ definitions N S = sym (definitions-by n N S (omega arith)) in
-    let h : Reads (AreDefinitions N) (definitions_by n N) S (definitions N S) = subst (λ o. Reads (AreDefinitions N) (definitions_by n N) S o) i (reads_definitions_by n N S) in
+    let h : Reads (AreDefinitions N) (definitions_by n N) S (definitions N S) =
+    subst (λ o. Reads (AreDefinitions N) (definitions_by n N) S o) i (reads_definitions_by n N S) in
     record {
       done = h.done;
       cut = h.cut;
@@ -164,7 +180,8 @@ reads_definitions N S =
 pub definitions_let : (N : Meanings) (S : List Token) → definitions N (Let ∷ S) ≡ after (definition N S) (λ m R. definitions (N ++ m ∷ []) R)
 unfolding definitions definitions_by
 definitions_let N S =
-    after_same (length S) (definition N S) _ _ _ refl (short_definition N S) (λ m R few. enough (suc (length S)) (suc (length R)) (N ++ m ∷ []) R (omega arith) (omega arith))
+    after_same (length S) (definition N S) _ _ _ refl (short_definition N S)
+    (λ m R few. enough (suc (length S)) (suc (length R)) (N ++ m ∷ []) R (omega arith) (omega arith))
 
 pub definitions_end : (N : Meanings) (S : List Token) → front S ≢ Some Let → definitions N S ≡ got N S
 unfolding definitions definitions_by
@@ -183,13 +200,16 @@ params_read seat_and_suit B = refl
 pub definition_read : {N : Meanings} {D : List Token} {m : Meaning} → IsDefinition N D m → (B : List Token) → definition N (D ++ B) ≡ got m B
 unfolding definition
 definition_read {N} (defines {P} {T} {p} {m} h b) B =
-    ap (λ b. after (cond b (got tt ((P ++ (Is ∷ Open ∷ T ++ Close ∷ [])) ++ B)) (stuck (Name (length N) ∷ (P ++ (Is ∷ Open ∷ T ++ Close ∷ [])) ++ B))) (λ _ S. after (params S) (λ p S. is_body N p S))) (equal_itself (length N))
+    ap (λ b. after (cond b (got tt ((P ++ (Is ∷ Open ∷ T ++ Close ∷ [])) ++ B))
+    (stuck (Name (length N) ∷ (P ++ (Is ∷ Open ∷ T ++ Close ∷ [])) ++ B)))
+    (λ _ S. after (params S) (λ p S. is_body N p S))) (equal_itself (length N))
     ∙ ap (λ S. after (params S) (λ p S. is_body N p S)) (append_assoc P (Is ∷ Open ∷ T ++ Close ∷ []) B)
     ∙ ap (λ o. after o (λ p S. is_body N p S)) (params_read h (Open ∷ (T ++ Close ∷ []) ++ B))
     ∙ ap (λ S. after (body N p S) closing) (append_assoc T (Close ∷ []) B)
     ∙ ap (λ o. after o closing) (body_read b B)
 
-pub definitions_read : {N M : Meanings} {D : List Token} → AreDefinitions N D M → (B : List Token) → front B ≢ Some Let → definitions N (D ++ B) ≡ got M B
+pub definitions_read : {N M : Meanings} {D : List Token} → AreDefinitions N D M → (B : List Token)
+    → front B ≢ Some Let → definitions N (D ++ B) ≡ got M B
 definitions_read (none {N}) B h = definitions_end N B h
 definitions_read (one_more {N} {M} {D} {T} {m} d k) B h =
     ap (λ S. definitions N (Let ∷ S)) (append_assoc D T B)
@@ -289,7 +309,8 @@ ended_nil (got a []) x R e = cc
 ended_nil (got a (c ∷ S)) x R e = absurd (cc)
 ended_nil (stuck S) x R e = absurd (cc)
 
-after_nil : {A B : Type 0} (o : Outcome A) (f : A → Reader B) (y : B) (R : List Token) → ((x : A) (S : List Token) → f x S ≡ got y R → R ≡ []) → after o f ≡ got y R → R ≡ []
+after_nil : {A B : Type 0} (o : Outcome A) (f : A → Reader B) (y : B) (R : List Token)
+    → ((x : A) (S : List Token) → f x S ≡ got y R → R ≡ []) → after o f ≡ got y R → R ≡ []
 after_nil (got x S) f y R h e = h x S e
 after_nil (stuck S) f y R h e = absurd (cc)
 
@@ -313,7 +334,8 @@ whole_right T R t e =
 
 pub alone_right : (T R : List Token) (N : Meanings) → definitions_alone T ≡ got N R → AreDefinitions [] T N
 alone_right T R N e =
-    let h : Reads (AreDefinitions []) definitions_alone T (got N R) = subst (λ o. Reads (AreDefinitions []) definitions_alone T o) e (reads_alone T) in
+    let h : Reads (AreDefinitions []) definitions_alone T (got N R) =
+    subst (λ o. Reads (AreDefinitions []) definitions_alone T o) e (reads_alone T) in
     subst (λ L. AreDefinitions [] L N) (sym (h.cut ∙ ap (λ R. h.done ++ R) (alone_nil T R N e) ∙ append-nil h.done)) h.right
 
 pub whole_value_right : (T R : List Token) (a : Amount) → whole_value T ≡ got a R → SpellsAmount T a

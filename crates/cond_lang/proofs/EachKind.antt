@@ -1,5 +1,6 @@
 -- Each kind stands in the list of all, once.
-use Rattle.std.proofs.Common.{◌≡◌, ◌∙◌, ap, ℕ, zero, suc, ◌+◌, ◌&&◌, ◌==◌, Bool, true, List, [], ◌∷◌, ◌++◌, Some, refl, map, slice_get, arith, drop, length}
+use Rattle.std.proofs.Common.{◌≡◌, ◌∙◌, ap, ℕ, zero, suc, ◌+◌, ◌&&◌, ◌==◌, Bool, true, List, [], ◌∷◌, ◌++◌, Some}
+use Rattle.std.proofs.Common.{refl, map, slice_get, arith, drop, length}
 use Rattle.std.proofs.lemmas.Grind.{common_steps}
 use Rattle.std.proofs.lemmas.Option.{slice_get-map}
 use Rattle.cards.specs.Measures.{measures, measure_number, measure_listed}
@@ -20,7 +21,8 @@ with_more (y ∷ xs) ys (suc i) x e = with_more xs ys i x e
 behind_three : {X : Type 0} (a b c : X) (xs : List X) (i : ℕ) → slice_get (a ∷ b ∷ c ∷ xs) (3 + i) ≡ slice_get xs i
 behind_three a b c xs i = let three : 3 + i ≡ suc (suc (suc i)) = omega arith in rw three refl
 
-behind_ten : {X : Type 0} (z a b c d e f g h j : X) (xs : List X) (i : ℕ) → slice_get (z ∷ a ∷ b ∷ c ∷ d ∷ e ∷ f ∷ g ∷ h ∷ j ∷ xs) (10 + i) ≡ slice_get xs i
+behind_ten : {X : Type 0} (z a b c d e f g h j : X) (xs : List X) (i : ℕ)
+    → slice_get (z ∷ a ∷ b ∷ c ∷ d ∷ e ∷ f ∷ g ∷ h ∷ j ∷ xs) (10 + i) ≡ slice_get xs i
 behind_ten z a b c d e f g h j xs i =
     let one : 10 + i ≡ suc (9 + i) = omega arith in
     let three : 9 + i ≡ 3 + (6 + i) = omega arith in
@@ -91,7 +93,8 @@ are_from n (k ∷ ks) = (place_of k == n) && are_from (suc n) ks
 place_in : (n : ℕ) (ks : List Kind) (i : ℕ) (k : Kind) → are_from n ks ≡ true → slice_get ks i ≡ Some k → i + n ≡ place_of k
 place_in n [] i k h e = absurd (cc)
 place_in n (x ∷ ks) zero k h e = grind (arith, common_steps)
-place_in n (x ∷ ks) (suc i) k h e = let more : are_from (suc n) ks ≡ true = grind (arith, common_steps) in let there = place_in (suc n) ks i k more e in omega (arith, there)
+place_in n (x ∷ ks) (suc i) k h e = let more : are_from (suc n) ks ≡ true = grind (arith, common_steps) in let there =
+    place_in (suc n) ks i k more e in omega (arith, there)
 
 pub kind_once : (k : Kind) → IsListed k → IsListedOnce k
 kind_once k l = (kind_listed k l, λ i e. (let h = place_in 0 all_kinds i k refl e in omega (arith, h)))

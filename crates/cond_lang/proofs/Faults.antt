@@ -1,5 +1,6 @@
 -- What a text with no faulty piece spells, where its syntax fault stands, and what the shortest condition spells.
-use Rattle.std.proofs.Common.{◌≡◌, ℕ, ◌+◌, ◌-◌, ◌≤◌, ◌<◌, ◌⊎◌, List, [], ◌∷◌, ◌++◌, length, take, drop, Ok, Err, take-append-drop, append_assoc, refl, sym, ap, ◌∙◌, subst, inl, inr, arith}
+use Rattle.std.proofs.Common.{◌≡◌, ℕ, ◌+◌, ◌-◌, ◌≤◌, ◌<◌, ◌⊎◌, List, [], ◌∷◌, ◌++◌, length, take, drop, Ok, Err}
+use Rattle.std.proofs.Common.{take-append-drop, append_assoc, refl, sym, ap, ◌∙◌, subst, inl, inr, arith}
 use Rattle.std.specs.Prelude.{codes}
 use Rattle.std.proofs.lemmas.Bool.{cases_lt}
 use Rattle.std.proofs.lemmas.List.{take-take}
@@ -85,11 +86,13 @@ found_or_fault text ts (stuck R) h e =
     let n : ℕ = length (kinds ts) - length R in
     inr (offset_of ts (length text) n, record { tokens = ts; cut = h; place = (n, first_fault (kinds ts) R e, refl) })
 
-pub tree_or_fault : (text : List ℕ) (ts : List Placed) → HasTokens text ts → ((tree : Form) × SpellsTree text tree) ⊎ ((at : ℕ) × HasSyntaxFault text at)
+pub tree_or_fault : (text : List ℕ) (ts : List Placed) → HasTokens text ts
+    → ((tree : Form) × SpellsTree text tree) ⊎ ((at : ℕ) × HasSyntaxFault text at)
 tree_or_fault text ts h = found_or_fault text ts (whole (kinds ts)) h refl
 
 -- A text has tokens, or a fault.
-told_or_fault : (text : List ℕ) (ps : Pieces) (r : Told) → IsCut text ps → told_from 0 (named ps) ≡ r → ((ts : List Placed) × HasTokens text ts) ⊎ ((e : CondError) × HasFault text e)
+told_or_fault : (text : List ℕ) (ps : Pieces) (r : Told) → IsCut text ps → told_from 0 (named ps) ≡ r
+    → ((ts : List Placed) × HasTokens text ts) ⊎ ((e : CondError) × HasFault text e)
 told_or_fault text ps (Ok ts) c e = inl (ts, told_tokens text ts (record { pieces = ps; cut = c; found = e }))
 told_or_fault text ps (Err f) c e = inr (f, told_fault text f (record { pieces = ps; cut = c; found = e }))
 
@@ -102,7 +105,8 @@ zero rest r = number_piece r (omega arith)
 equals : IsPiece (61 ∷ 61 ∷ []) (48 ∷ []) (TokenPiece (Relation Equal))
 equals = symbol (entry_of symbols (61 ∷ 61 ∷ []) (Relation Equal) refl) (λ q b. fits q (61 ∷ 61 ∷ 48 ∷ []) b)
 
-zero_is_zero_cut : TellsTokens (codes "0==0") (record { token = Number 0; at = 0 } ∷ record { token = Relation Equal; at = 1 } ∷ record { token = Number 0; at = 3 } ∷ [])
+zero_is_zero_cut : TellsTokens (codes "0==0") (record { token = Number 0; at = 0 } ∷ record
+    { token = Relation Equal; at = 1 } ∷ record { token = Number 0; at = 3 } ∷ [])
 zero_is_zero_cut =
     record {
       pieces = (48 ∷ [], TokenPiece (Number 0)) ∷ (61 ∷ 61 ∷ [], TokenPiece (Relation Equal)) ∷ (48 ∷ [], TokenPiece (Number 0)) ∷ [];

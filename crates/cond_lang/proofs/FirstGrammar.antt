@@ -11,11 +11,19 @@ use Rattle.conditions.specs.declared.tree.Op.TheVariants.{Equal}
 use Rattle.cards.specs.declared.suit.Suit.TheVariants.{Spades}
 use Rattle.cond_lang.specs.declared.classes.Bound.{Bound}
 use Rattle.cond_lang.specs.declared.scanner.Token.{Token}
-use Rattle.cond_lang.specs.declared.scanner.Token.TheVariants.{Or, And, Not, Balanced, Shape, Pattern, Measure, Cards, Len, Longest, Second, Shortest, Seat, Suit, Number, Open, Close, Comma, Plus, Relation, Let}
+use Rattle.cond_lang.specs.declared.scanner.Token.TheVariants.{Or, And, Not, Balanced, Shape, Pattern, Measure, Cards}
+use Rattle.cond_lang.specs.declared.scanner.Token.TheVariants.{Len, Longest, Second, Shortest, Seat, Suit, Number}
+use Rattle.cond_lang.specs.declared.scanner.Token.TheVariants.{Open, Close, Comma, Plus, Relation, Let}
 use Rattle.conditions.specs.Form.{Amount, number, counted, points, suit_points, suit_length, Form, any_of, all_of, negation, compare}
 use Rattle.cond_lang.specs.Classes.{unbound, by_suit, by_class}
 use Rattle.cond_lang.specs.Definitions.{Spells, SpellsNameless}
-use Rattle.cond_lang.specs.Grammar.{named_value, named_condition, a_count, multiple, Forms, FormsAt, SpellsSeat, by_word, by_bound, beside, SpellsCount, SpellsAtom, a_number, count, measure, measure_in, len, cards, cards_in, longest_suit, second_suit, shortest_suit, SpellsValue, atom, plus, item_token, four, SpellsCond, both, or, BothOf, SpellsBoth, unit, and, UnitOf, SpellsUnit, not, brackets, quantified, test, SpellsTest, comparison, in_range, of_hand, is_balanced, has_shape, has_pattern, has_stopper}
+use Rattle.cond_lang.specs.Grammar.{named_value, named_condition, a_count, multiple, Forms, FormsAt, SpellsSeat}
+use Rattle.cond_lang.specs.Grammar.{by_word, by_bound, beside, SpellsCount, SpellsAtom, a_number, count, measure}
+use Rattle.cond_lang.specs.Grammar.{measure_in, len, cards, cards_in, longest_suit, second_suit, shortest_suit}
+use Rattle.cond_lang.specs.Grammar.{SpellsValue, atom, plus, item_token, four, SpellsCond, both, or, BothOf}
+use Rattle.cond_lang.specs.Grammar.{SpellsBoth, unit, and, UnitOf, SpellsUnit, not, brackets, quantified, test}
+use Rattle.cond_lang.specs.Grammar.{SpellsTest, comparison, in_range, of_hand, is_balanced, has_shape, has_pattern}
+use Rattle.cond_lang.specs.Grammar.{has_stopper}
 use Rattle.cond_lang.specs.Faults.{IsViableIn, IsFirstFaultIn, IsViable, IsFirstFault}
 use Rattle.cond_lang.specs.SmallerGrammars as small
 use Rattle.cond_lang.specs.SmallerGrammars.{no_additions, SpellsFirstAtom, four_numbers, FirstTestOf, SpellsInFirstGrammar, IsOldest, IsViableFirst}
@@ -46,7 +54,8 @@ keeps_before c R n end = newer n
 keeps_before c R n (same h) = same (keeps_before c R n h)
 
 -- oldest tokens that begin T begin U too
-rest_of : (L more : List Token) {U : List Token} → ((c : Token) → Contains L c → IsOldest c) → Keeps (L ++ more) U → (rest : List Token) × (U ≡ L ++ rest)
+rest_of : (L more : List Token) {U : List Token} → ((c : Token) → Contains L c → IsOldest c) → Keeps (L ++ more) U
+    → (rest : List Token) × (U ≡ L ++ rest)
 rest_of [] more {U} old k = (U, refl)
 rest_of (c ∷ L) more old (newer n) = absurd (n (old c (0, omega arith, refl)))
 rest_of (c ∷ L) more old (same h) =
@@ -73,17 +82,30 @@ keeps_seat (beside w h) k = newer (λ i. i)
 keep_count :
     {E : Bound} {c : Token} {R : List Token} {f : ASeat → Count} → SpellsCount E c R f → {T : List Token} {q : ASeat} → SpellsSeat E T q
     → Kept SpellsFirstAtom (c ∷ Open ∷ T ++ R)
-keep_count (measure {m = Hcp}) {q} h = (Measure Hcp ∷ Open ∷ Seat q ∷ Close ∷ [], counted (points q), small.hcp, same (same (keeps_seat h (keeps_all _))))
+keep_count (measure {m = Hcp}) {q} h = (
+  Measure Hcp ∷ Open ∷ Seat q ∷ Close ∷ [],
+  counted (points q),
+  small.hcp,
+  same (same (keeps_seat h (keeps_all _))),
+)
 keep_count (measure {m}) h = zero_for (Measure m) _ (λ i. i)
 keep_count (measure_in {m = Hcp} (by_suit {s})) {q} h =
     (Measure Hcp ∷ Open ∷ Seat q ∷ Comma ∷ Suit s ∷ Close ∷ [], counted (suit_points q s), small.hcp_in, same (same (keeps_seat h (keeps_all _))))
-keep_count (measure_in {m = Hcp} (by_class e)) {q} h =
-    (Measure Hcp ∷ Open ∷ Seat q ∷ Comma ∷ Suit Spades ∷ Close ∷ [], counted (suit_points q Spades), small.hcp_in, same (same (keeps_seat h (same (newer (λ i. i))))))
+keep_count (measure_in {m = Hcp} (by_class e)) {q} h = (
+  Measure Hcp ∷ Open ∷ Seat q ∷ Comma ∷ Suit Spades ∷ Close ∷ [],
+  counted (suit_points q Spades),
+  small.hcp_in,
+  same (same (keeps_seat h (same (newer (λ i. i))))),
+)
 keep_count (measure_in {m} i) h = zero_for (Measure m) _ (λ i. i)
 keep_count (len (by_suit {s})) {q} h =
     (Len ∷ Open ∷ Seat q ∷ Comma ∷ Suit s ∷ Close ∷ [], counted (suit_length q s), small.len, same (same (keeps_seat h (keeps_all _))))
-keep_count (len (by_class e)) {q} h =
-    (Len ∷ Open ∷ Seat q ∷ Comma ∷ Suit Spades ∷ Close ∷ [], counted (suit_length q Spades), small.len, same (same (keeps_seat h (same (newer (λ i. i))))))
+keep_count (len (by_class e)) {q} h = (
+  Len ∷ Open ∷ Seat q ∷ Comma ∷ Suit Spades ∷ Close ∷ [],
+  counted (suit_length q Spades),
+  small.len,
+  same (same (keeps_seat h (same (newer (λ i. i))))),
+)
 keep_count cards h = zero_for Cards _ (λ i. i)
 keep_count (cards_in i) h = zero_for Cards _ (λ i. i)
 keep_count longest_suit h = zero_for Longest _ (λ i. i)
@@ -202,7 +224,8 @@ fault_in S W T n viable spells f = record {
   at_end = λ e t h. f.at_end e t (spells t h);
 }
 
-pub same_faults_in_first_grammar : (T : List Token) (n : ℕ) → ((c : Token) → Contains T c → IsOldest c) → IsFirstFault T n ↔ IsFirstFaultIn SpellsInFirstGrammar T n
+pub same_faults_in_first_grammar : (T : List Token) (n : ℕ) → ((c : Token) → Contains T c → IsOldest c)
+    → IsFirstFault T n ↔ IsFirstFaultIn SpellsInFirstGrammar T n
 same_faults_in_first_grammar T n old = (
   fault_in Spells SpellsInFirstGrammar T n (λ k. viable_in_first_grammar (take k T) (old_part k T old)) (λ t h. nameless_text (spelled_again h)),
   fault_in SpellsInFirstGrammar Spells T n

@@ -1,5 +1,6 @@
 -- A text with nothing that the first language lacked has the pieces that it had then.
-use Rattle.std.proofs.Common.{◌≡◌, ℕ, ◌<◌, ◌≤◌, ◌⊎◌, true, false, List, [], ◌∷◌, ◌++◌, length, Option, Some, None, refl, sym, ap, ◌∙◌, subst, arith, inl, inr}
+use Rattle.std.proofs.Common.{◌≡◌, ℕ, ◌<◌, ◌≤◌, ◌⊎◌, true, false, List, [], ◌∷◌, ◌++◌, length, Option, Some, None}
+use Rattle.std.proofs.Common.{refl, sym, ap, ◌∙◌, subst, arith, inl, inr}
 use Rattle.std.specs.Prelude.{Contains, ◌↔◌}
 use Rattle.std.specs.List.{AllByRecursion}
 use Rattle.std.specs.Char.{is_ascii_lowercase, is_ascii_digit}
@@ -10,10 +11,14 @@ use Rattle.cond_lang.specs.declared.scanner.Token.{Token}
 use Rattle.cond_lang.specs.declared.scanner.Token.TheVariants.{Plus, Star, Ranks, Number}
 use Rattle.cond_lang.specs.declared.scanner.Piece.{Piece}
 use Rattle.cond_lang.specs.declared.scanner.Piece.TheVariants.{Separator, Token as TokenPiece, StrayByte, UnknownWord, LongNumber}
-use Rattle.cond_lang.specs.Cut.{words, symbols, is_separator, are_ranks, named_by, decimal, IsRun, BeginsWithSymbol, BeginsWithNone, IsPiece, blank, comment, word, ranks, no_word, number, long, symbol, stray, Pieces, IsCut, end, piece}
+use Rattle.cond_lang.specs.Cut.{words, symbols, is_separator, are_ranks, named_by, decimal, IsRun, BeginsWithSymbol}
+use Rattle.cond_lang.specs.Cut.{BeginsWithNone, IsPiece, blank, comment, word, ranks, no_word, number, long, symbol}
+use Rattle.cond_lang.specs.Cut.{stray, Pieces, IsCut, end, piece}
 use Rattle.cond_lang.specs.SmallerGrammars.{IsOldest}
 use Rattle.cond_lang.specs.FirstPieces as first
-use Rattle.cond_lang.specs.FirstPieces.{first_words, first_symbols, is_first_separator, IsUnknownThen, BeginsWithFirst, IsFirstPiece, IsFirstCut, HasFirstBytes, IsOldestPiece, IsFirstText}
+use Rattle.cond_lang.specs.FirstPieces.{first_words, first_symbols, is_first_separator, IsUnknownThen}
+use Rattle.cond_lang.specs.FirstPieces.{BeginsWithFirst, IsFirstPiece, IsFirstCut, HasFirstBytes, IsOldestPiece}
+use Rattle.cond_lang.specs.FirstPieces.{IsFirstText}
 use Rattle.cond_lang.specs.internal.Scanning.{token_of}
 use Rattle.cond_lang.proofs.Tables.{words_apart, token_of-entry, entry_of, at_entry}
 use Rattle.cond_lang.proofs.Symbols.{fits}
@@ -26,8 +31,115 @@ word_kept p t e o = entry_of first_words p t e
 -- a word whose token is an oldest one is a first word
 first_word : (p : List ℕ) (t : Token) → Contains words (p, t) → IsOldest t → Contains first_words (p, t)
 first_word =
-    at_entry (λ p t. IsOldest t → Contains first_words (p, t)) words
-    (word_kept _ _ refl, (word_kept _ _ refl, (word_kept _ _ refl, (word_kept _ _ refl, (word_kept _ _ refl, (word_kept _ _ refl, ((λ o. absurd o), ((λ o. absurd o), ((λ o. absurd o), (word_kept _ _ refl, ((λ o. absurd o), ((λ o. absurd o), ((λ o. absurd o), (word_kept _ _ refl, ((λ o. absurd o), ((λ o. absurd o), ((λ o. absurd o), ((λ o. absurd o), ((λ o. absurd o), (word_kept _ _ refl, (word_kept _ _ refl, (word_kept _ _ refl, (word_kept _ _ refl, ((λ o. absurd o), ((λ o. absurd o), ((λ o. absurd o), ((λ o. absurd o), ((λ o. absurd o), ((λ o. absurd o), (word_kept _ _ refl, (word_kept _ _ refl, (word_kept _ _ refl, (word_kept _ _ refl, ((λ o. absurd o), ((λ o. absurd o), ((λ o. absurd o), ((λ o. absurd o), ((λ o. absurd o), ((λ o. absurd o), tt)))))))))))))))))))))))))))))))))))))))
+    at_entry (λ p t. IsOldest t → Contains first_words (p, t)) words (
+      word_kept _ _ refl,
+      (
+        word_kept _ _ refl,
+        (
+          word_kept _ _ refl,
+          (
+            word_kept _ _ refl,
+            (
+              word_kept _ _ refl,
+              (
+                word_kept _ _ refl,
+                (
+                  (λ o. absurd o),
+                  (
+                    (λ o. absurd o),
+                    (
+                      (λ o. absurd o),
+                      (
+                        word_kept _ _ refl,
+                        (
+                          (λ o. absurd o),
+                          (
+                            (λ o. absurd o),
+                            (
+                              (λ o. absurd o),
+                              (
+                                word_kept _ _ refl,
+                                (
+                                  (λ o. absurd o),
+                                  (
+                                    (λ o. absurd o),
+                                    (
+                                      (λ o. absurd o),
+                                      (
+                                        (λ o. absurd o),
+                                        (
+                                          (λ o. absurd o),
+                                          (
+                                            word_kept _ _ refl,
+                                            (
+                                              word_kept _ _ refl,
+                                              (
+                                                word_kept _ _ refl,
+                                                (
+                                                  word_kept _ _ refl,
+                                                  (
+                                                    (λ o. absurd o),
+                                                    (
+                                                      (λ o. absurd o),
+                                                      (
+                                                        (λ o. absurd o),
+                                                        (
+                                                          (λ o. absurd o),
+                                                          (
+                                                            (λ o. absurd o),
+                                                            (
+                                                              (λ o. absurd o),
+                                                              (
+                                                                word_kept _ _ refl,
+                                                                (
+                                                                  word_kept _ _ refl,
+                                                                  (
+                                                                    word_kept _ _ refl,
+                                                                    (
+                                                                      word_kept _ _ refl,
+                                                                      (
+                                                                        (λ o. absurd o),
+                                                                        (
+                                                                          (λ o. absurd o),
+                                                                          (
+                                                                            (λ o. absurd o),
+                                                                            ((λ o. absurd o), ((λ o. absurd o), ((λ o. absurd o), tt))),
+                                                                          ),
+                                                                        ),
+                                                                      ),
+                                                                    ),
+                                                                  ),
+                                                                ),
+                                                              ),
+                                                            ),
+                                                          ),
+                                                        ),
+                                                      ),
+                                                    ),
+                                                  ),
+                                                ),
+                                              ),
+                                            ),
+                                          ),
+                                        ),
+                                      ),
+                                    ),
+                                  ),
+                                ),
+                              ),
+                            ),
+                          ),
+                        ),
+                      ),
+                    ),
+                  ),
+                ),
+              ),
+            ),
+          ),
+        ),
+      ),
+    )
 
 word_still : (p : List ℕ) (t : Token) → Contains first_words (p, t) → Contains words (p, t)
 word_still =
@@ -92,7 +204,19 @@ first_or_later =
             symbol_kept _ _ refl,
             (
               inr (inl (refl, refl)),
-              (inr (inr (refl, refl)), (symbol_kept _ _ refl, (symbol_kept _ _ refl, (symbol_kept _ _ refl, (symbol_kept _ _ refl, (symbol_kept _ _ refl, (symbol_kept _ _ refl, tt))))))),
+              (
+                inr (inr (refl, refl)),
+                (
+                  symbol_kept _ _ refl,
+                  (
+                    symbol_kept _ _ refl,
+                    (
+                      symbol_kept _ _ refl,
+                      (symbol_kept _ _ refl, (symbol_kept _ _ refl, (symbol_kept _ _ refl, tt))),
+                    ),
+                  ),
+                ),
+              ),
             ),
           ),
         ),
@@ -209,7 +333,8 @@ piece_then (stray {c} {rest} a g l d n) b o = first.stray (no_separator_then c a
 abbrev Still : List ℕ → List ℕ → Piece → Type 0
 Still p rest k = (j : Piece) × IsPiece p rest j × (IsOldestPiece j → j ≡ k)
 
-unknown_still : (p rest : List ℕ) (o : Option Token) → token_of words p ≡ o → IsRun is_ascii_lowercase p rest → IsUnknownThen p → Still p rest UnknownWord
+unknown_still : (p rest : List ℕ) (o : Option Token) → token_of words p ≡ o → IsRun is_ascii_lowercase p rest
+    → IsUnknownThen p → Still p rest UnknownWord
 unknown_still p rest None e r n =
     elim (cases_Bool (are_ranks p)) [
       | inl h ↦ (TokenPiece (Ranks (named_by p)), ranks r h, λ o. absurd o)
@@ -234,8 +359,12 @@ stray_still c rest a l d n b =
       | inr plus ↦
           elim (cases_eq c 42) [
             | inl e ↦ (TokenPiece Star, subst (λ c. IsPiece (c ∷ []) rest (TokenPiece Star)) (sym e) (star_now rest), λ o. absurd o)
-            | inr star ↦
-                (StrayByte, stray (no_separator_still c a (at_front c 13 [] b.1)) (ne_eqb c 35 (at_front c 35 [] b.0)) l d (none_still c rest plus star n), λ o. refl)
+            | inr star ↦ (
+              StrayByte,
+              stray (no_separator_still c a (at_front c 13 [] b.1)) (ne_eqb c 35 (at_front c 35 [] b.0))
+                  l d (none_still c rest plus star n),
+              λ o. refl,
+            )
           ]
     ]
 

@@ -20,7 +20,8 @@ kept keeps (Err Syntax) rest o t h n e = absurd (n refl)
 kept keeps (Err Memory) rest o t h n e = tt
 
 -- what is there is kept of a tree
-pub some_grown : (room : ℕ) (o : Option Grown) (g : Grown) (t : Option Form) → o ≡ Some g → AreGrown room o t → (u : Form) × IsGrown room g u × (t ≡ Some u)
+pub some_grown : (room : ℕ) (o : Option Grown) (g : Grown) (t : Option Form) → o ≡ Some g → AreGrown room o t
+    → (u : Form) × IsGrown room g u × (t ≡ Some u)
 some_grown room (Some h) g (Some u) e k = let same : h ≡ g = cc in (u, subst (λ x. IsGrown room x u) same k, refl)
 some_grown room (Some h) g None e k = absurd k
 some_grown room None g t e k = absurd (cc)

@@ -1,5 +1,6 @@
 -- The names that the parser keeps, and what they stand for.
-use Rattle.std.proofs.Common.{◌≡◌, ℕ, zero, suc, ◌+◌, ◌*◌, ◌≤◌, ◌<◌, Bool, true, false, List, [], ◌∷◌, ◌++◌, Some, None, length, take, get_or, slice_get, refl, sym, ap, ◌∙◌, subst, length-append, arith}
+use Rattle.std.proofs.Common.{◌≡◌, ℕ, zero, suc, ◌+◌, ◌*◌, ◌≤◌, ◌<◌, Bool, true, false, List, [], ◌∷◌, ◌++◌, Some}
+use Rattle.std.proofs.Common.{None, length, take, get_or, slice_get, refl, sym, ap, ◌∙◌, subst, length-append, arith}
 use Rattle.std.specs.Prelude.{min, Result, Ok, Err, IfOk}
 use Rattle.std.proofs.lemmas.Option.{slice_get_past, slice_get_read, get_or_from_slice_get}
 use Rattle.conditions.specs.Form.{Amount, Form}
@@ -15,7 +16,10 @@ use Rattle.cond_lang.specs.Grammar.{Meaning, Meanings, condition, value}
 use Rattle.cond_lang.specs.Text.{kinds}
 use Rattle.cond_lang.specs.Classes.{given}
 use Rattle.cond_lang.specs.internal.Arguments.{is_argument, place_of}
-use Rattle.cond_lang.specs.internal.Defining.{new_name, params, is_body, definition, definitions, amount_read, tree_read, as_condition, as_value, meaning, meaning_by, meanings_after, meanings, IsGot, IsRead, AreCounted, IsSound, AreSoundAfter, AreSound, work_of}
+use Rattle.cond_lang.specs.internal.Defining.{new_name, params, is_body, definition, definitions, amount_read}
+use Rattle.cond_lang.specs.internal.Defining.{tree_read, as_condition, as_value, meaning, meaning_by, meanings_after}
+use Rattle.cond_lang.specs.internal.Defining.{meanings, IsGot, IsRead, AreCounted, IsSound, AreSoundAfter, AreSound}
+use Rattle.cond_lang.specs.internal.Defining.{work_of}
 use Rattle.cond_lang.specs.internal.Growing.{GivesBy, most_counted}
 use Rattle.cond_lang.specs.internal.Reading.{Outcome, got, stuck, after, front, a_cond, a_value, reading}
 use Rattle.cond_lang.proofs.Definitions.{definitions_let}
@@ -28,7 +32,8 @@ pub meanings_length : (ms : List Named) → length (meanings ms) ≡ length ms
 meanings_length ms = omega (arith, length_after [] ms)
 
 -- one name more
-after_one_more : (N : Meanings) (ms : List Named) (m : Named) → meanings_after N (ms ++ m ∷ []) ≡ meanings_after N ms ++ meaning (meanings_after N ms) m ∷ []
+after_one_more : (N : Meanings) (ms : List Named) (m : Named)
+    → meanings_after N (ms ++ m ∷ []) ≡ meanings_after N ms ++ meaning (meanings_after N ms) m ∷ []
 after_one_more N [] m = refl
 after_one_more N (k ∷ ms) m = after_one_more (N ++ meaning N k ∷ []) ms m
 
@@ -71,7 +76,8 @@ first_at N m k ms s e =
     (record {
       before = tt;
       sound = s;
-      means = subst (λ i. slice_get (meanings_after N (m ∷ ms)) i ≡ Some (meaning N m)) (omega arith) (stays (N ++ meaning N m ∷ []) ms (length N) (meaning N m) (get_behind N (meaning N m) []));
+      means = subst (λ i. slice_get (meanings_after N (m ∷ ms)) i ≡ Some (meaning N m)) (omega arith)
+          (stays (N ++ meaning N m ∷ []) ms (length N) (meaning N m) (get_behind N (meaning N m) []));
       less = omega arith;
     })
 
@@ -83,7 +89,9 @@ at N (k ∷ ms) (suc n) m s e =
     record {
       before = (s.0, h.before);
       sound = h.sound;
-      means = subst (λ i. slice_get (meanings_after N (k ∷ ms)) i ≡ Some (meaning (meanings_after N (take (suc n) (k ∷ ms))) m)) (omega (arith, length-append N (meaning N k ∷ []))) h.means;
+      means = subst (λ i. slice_get (meanings_after N (k ∷ ms)) i ≡ Some
+          (meaning (meanings_after N (take (suc n) (k ∷ ms))) m)) (omega (arith, length-append N (meaning N k ∷ [])))
+          h.means;
       less = omega (arith, h.less);
     }
 
@@ -97,7 +105,8 @@ none_at ms n e = slice_get_past (meanings ms) n (omega (arith, meanings_length m
     past (m ∷ ms) zero e = absurd (cc)
     past (m ∷ ms) (suc n) e = omega (arith, past ms n e)
 
-pub meaning_at : (ms : List Named) (n : ℕ) (m : Named) → AreSound ms → slice_get ms n ≡ Some m → slice_get (meanings ms) n ≡ Some (meaning (meanings (take n ms)) m)
+pub meaning_at : (ms : List Named) (n : ℕ) (m : Named) → AreSound ms → slice_get ms n ≡ Some m
+    → slice_get (meanings ms) n ≡ Some (meaning (meanings (take n ms)) m)
 meaning_at ms n m s e = subst (λ i. slice_get (meanings ms) i ≡ Some (meaning (meanings (take n ms)) m)) (omega arith) (at [] ms n m s e).means
 
 pub value_meaning :
@@ -136,7 +145,8 @@ module _ (N : Meanings) (S : List Token) (P : Params) (parts : List ℕ) where
   amount_of :
       (b : Bool) (p : Params) (f : Choice → Amount) (x : Choice)
       → ((y : Choice) → IsRead N b (given P y) S) → AreCounted N P b S parts → meaning_by N b P S ≡ value p f → is_argument p x ≡ true
-      → (slice_get parts (place_of x) ≡ Some (min (atoms_of (f x)) most_counted)) × ((R : List Token) × (reading N (given P x) a_value S ≡ got (f x) R))
+      → (slice_get parts (place_of x) ≡ Some (min (atoms_of (f x)) most_counted))
+      × ((R : List Token) × (reading N (given P x) a_value S ≡ got (f x) R))
   amount_of false p f x read counted e i = absurd (cc)
   amount_of true p f x read counted e i =
       let same : P ≡ p = cc in
@@ -150,7 +160,8 @@ module _ (N : Meanings) (S : List Token) (P : Params) (parts : List ℕ) where
   tree_of :
       (b : Bool) (p : Params) (f : Choice → Form) (x : Choice)
       → ((y : Choice) → IsRead N b (given P y) S) → AreCounted N P b S parts → meaning_by N b P S ≡ condition p f → is_argument p x ≡ true
-      → (slice_get parts (place_of x) ≡ Some (min (parts_of (f x)) most_counted)) × ((R : List Token) × (reading N (given P x) a_cond S ≡ got (f x) R))
+      → (slice_get parts (place_of x) ≡ Some (min (parts_of (f x)) most_counted))
+      × ((R : List Token) × (reading N (given P x) a_cond S ≡ got (f x) R))
   tree_of true p f x read counted e i = absurd (cc)
   tree_of false p f x read counted e i =
       let same : P ≡ p = cc in
@@ -180,11 +191,13 @@ tree_at ms n m p f x s e means i =
     record { parts = all.0; left = all.1.0; read = all.1.1 }
 
 -- what a function kept of what is read
-pub kept_of : {X A : Type 0} (keeps : X → A → Type 0) (r : Result X Refusal) (R S : List Token) (o : Outcome A) (a : A) → o ≡ got a S → GivesBy keeps r R o → IfOk r (λ v. keeps v a)
+pub kept_of : {X A : Type 0} (keeps : X → A → Type 0) (r : Result X Refusal) (R S : List Token) (o : Outcome A)
+    (a : A) → o ≡ got a S → GivesBy keeps r R o → IfOk r (λ v. keeps v a)
 kept_of {X} {A} keeps (Ok v) R S o a e h = let i : h.0 ≡ a = let k = h.2 in cc in subst (keeps v) i h.1
 kept_of {X} {A} keeps (Err f) R S o a e h = tt
 
-pub no_fault : {X A : Type 0} (keeps : X → A → Type 0) (r : Result X Refusal) (R S : List Token) (o : Outcome A) (a : A) → o ≡ got a S → GivesBy keeps r R o → r ≡ Err Syntax → ⊥
+pub no_fault : {X A : Type 0} (keeps : X → A → Type 0) (r : Result X Refusal) (R S : List Token) (o : Outcome A)
+    (a : A) → o ≡ got a S → GivesBy keeps r R o → r ≡ Err Syntax → ⊥
 no_fault {X} {A} keeps (Ok v) R S o a e h i = cc
 no_fault {X} {A} keeps (Err Syntax) R S o a e h i = cc
 no_fault {X} {A} keeps (Err Memory) R S o a e h i = cc
@@ -205,12 +218,14 @@ definition_is ms S = ap (λ n. after (new_name n S) (λ _ S. after (params S) (�
 
 -- a definition more: what is read of a list that begins with `let`
 pub next_names :
-    (ms more slice : List Named) (m : Named) (t : Token) (S R Q : List Token) → AreSound ms → slice ≡ ms → more ≡ ms ++ m ∷ [] → IsSound (meanings slice) m
+    (ms more slice : List Named) (m : Named) (t : Token) (S R Q : List Token) → AreSound ms → slice ≡ ms
+    → more ≡ ms ++ m ∷ [] → IsSound (meanings slice) m
     → S ≡ t ∷ R → front S ≡ Some Let → definition (meanings slice) R ≡ got (meaning (meanings slice) m) Q
     → AreSound more × (definitions (meanings ms) S ≡ definitions (meanings more) Q)
 next_names ms more slice m t S R Q s same grown sound cut sight read =
     let sound-here : IsSound (meanings ms) m = subst (λ ms. IsSound (meanings ms) m) same sound in
-    let read-here : definition (meanings ms) R ≡ got (meaning (meanings ms) m) Q = subst (λ ms. definition (meanings ms) R ≡ got (meaning (meanings ms) m) Q) same read in
+    let read-here : definition (meanings ms) R ≡ got (meaning (meanings ms) m) Q =
+    subst (λ ms. definition (meanings ms) R ≡ got (meaning (meanings ms) m) Q) same read in
     let is_let : t ≡ Let = cc in (
       subst AreSound (sym grown) (sound_more ms m s sound-here),
       ap (definitions (meanings ms)) (cut ∙ ap (λ t. t ∷ R) is_let)

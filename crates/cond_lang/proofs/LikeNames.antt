@@ -30,7 +30,8 @@ like_length none = refl
 like_length (more h n) = ap suc (like_length n)
 
 -- the name with the same number
-like_at : {N M : Meanings} → LikeNames N M → (n : ℕ) (m : Meaning) → slice_get N n ≡ Some m → (k : Meaning) × LikeMeaning m k × (slice_get M n ≡ Some k)
+like_at : {N M : Meanings} → LikeNames N M → (n : ℕ) (m : Meaning) → slice_get N n ≡ Some m
+    → (k : Meaning) × LikeMeaning m k × (slice_get M n ≡ Some k)
 like_at none n m e = absurd (cc)
 like_at (more {m = a} {k} h l) zero m e = let i : a ≡ m = cc in (k, rw (← i) h, refl)
 like_at (more h l) (suc n) m e = like_at l n m e
@@ -43,13 +44,15 @@ value_like : {m k : Meaning} → LikeMeaning m k → (p : Params) (f : Choice �
 value_like (values {p = q} {f = e} {g}) p f i = let j : q ≡ p = cc in (g, ap (λ p. value p g) j)
 value_like conditions p f i = absurd (cc)
 
-pub condition_at : {N M : Meanings} → LikeNames N M → (n : ℕ) (p : Params) (f : Choice → Form) → slice_get N n ≡ Some (condition p f) → (g : Choice → Form) × (slice_get M n ≡ Some (condition p g))
+pub condition_at : {N M : Meanings} → LikeNames N M → (n : ℕ) (p : Params) (f : Choice → Form)
+    → slice_get N n ≡ Some (condition p f) → (g : Choice → Form) × (slice_get M n ≡ Some (condition p g))
 condition_at l n p f e =
     let k = like_at l n (condition p f) e in
     let g = condition_like k.1 p f refl in
     (g.0, rw (← g.1) k.2)
 
-pub value_at : {N M : Meanings} → LikeNames N M → (n : ℕ) (p : Params) (f : Choice → Amount) → slice_get N n ≡ Some (value p f) → (g : Choice → Amount) × (slice_get M n ≡ Some (value p g))
+pub value_at : {N M : Meanings} → LikeNames N M → (n : ℕ) (p : Params) (f : Choice → Amount)
+    → slice_get N n ≡ Some (value p f) → (g : Choice → Amount) × (slice_get M n ≡ Some (value p g))
 value_at l n p f e =
     let k = like_at l n (value p f) e in
     let g = value_like k.1 p f refl in

@@ -53,7 +53,8 @@ module _ (r : Readers) (E : Bound) (k : AQuantifier) (c : AClass) (S R : List To
   each_finishes (s ∷ ss) ts h left Q = one_choice (is_member E c s) s ss ts (λ us g. each_finishes ss us g) h left Q
 
   -- the trees of all members of the class, joined
-  pub each_got : (t : Form) (ts : List Form) → ReadsEach r E c S R (members E c) (t ∷ ts) → each_by r E k c S all_choices None S ≡ got (fold (joined k) t ts) R
+  pub each_got : (t : Form) (ts : List Form) → ReadsEach r E c S R (members E c) (t ∷ ts)
+      → each_by r E k c S all_choices None S ≡ got (fold (joined k) t ts) R
   each_got t ts h = each_finishes all_choices (t ∷ ts) h None S
 
   -- where reading stops with each choice, it stops with the first of the class

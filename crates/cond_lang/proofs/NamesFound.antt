@@ -24,11 +24,13 @@ first_true : {A : Type 0} (f : A → Bool) (x : A) (xs ys : List A) → ys ≡ x
 first_true f x xs ys e t = ap (position_or_len f) e ∙ (rw t refl)
 
 -- what passes at a place of the list is the first of what is left from there
-pub passes_here : {A : Type 0} (f : A → Bool) (xs : List A) (n : ℕ) (d : A) → n < length xs → f (get_or xs n d) ≡ true → position_or_len f (drop n xs) ≡ 0
+pub passes_here : {A : Type 0} (f : A → Bool) (xs : List A) (n : ℕ) (d : A) → n < length xs → f (get_or xs n d) ≡ true
+    → position_or_len f (drop n xs) ≡ 0
 passes_here f xs n d lt t = first_true f (get_or xs n d) (drop (suc n) xs) (drop n xs) (drop-cons xs n d lt) t
 
 -- nothing is left to pass
-pub none_passes : {A : Type 0} (f : A → Bool) (xs : List A) (n : ℕ) → n ≡ length xs → position_or_len f xs ≡ n + position_or_len f (drop n xs) → position_or_len f xs ≡ length xs
+pub none_passes : {A : Type 0} (f : A → Bool) (xs : List A) (n : ℕ) → n ≡ length xs
+    → position_or_len f xs ≡ n + position_or_len f (drop n xs) → position_or_len f xs ≡ length xs
 none_passes f xs n e i =
     let nil : drop n xs ≡ [] = ap (λ m. drop m xs) e ∙ drop-length xs in
     let zero : position_or_len f (drop n xs) ≡ 0 = ap (position_or_len f) nil in

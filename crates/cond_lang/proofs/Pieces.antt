@@ -1,5 +1,6 @@
 -- Each text that isn't empty begins with exactly one piece, the one that the scanner finds.
-use Rattle.std.proofs.Common.{◌≡◌, ℕ, zero, suc, ◌<◌, ◌≤◌, Bool, true, false, List, [], ◌∷◌, ◌++◌, length, take, drop, Option, Some, None, leb, refl, sym, ap, ◌∙◌, subst, arith, take-append-drop, inl, inr}
+use Rattle.std.proofs.Common.{◌≡◌, ℕ, zero, suc, ◌<◌, ◌≤◌, Bool, true, false, List, [], ◌∷◌, ◌++◌, length, take, drop}
+use Rattle.std.proofs.Common.{Option, Some, None, leb, refl, sym, ap, ◌∙◌, subst, arith, take-append-drop, inl, inr}
 use Rattle.std.specs.Prelude.{Contains}
 use Rattle.std.proofs.Math.Seq.{take-append_seam}
 use Rattle.std.proofs.lemmas.Bool.{le-leb, lt-leb, cases_Bool, cases_lt, cond-true, cond-false}
@@ -9,11 +10,16 @@ use Rattle.cond_lang.specs.declared.scanner.Token.{Token}
 use Rattle.cond_lang.specs.declared.scanner.Token.TheVariants.{Ranks, Number, Relation}
 use Rattle.cond_lang.specs.declared.scanner.Piece.{Piece}
 use Rattle.cond_lang.specs.declared.scanner.Piece.TheVariants.{Separator, Token as TokenPiece, StrayByte, UnknownWord, LongNumber}
-use Rattle.cond_lang.specs.Cut.{words, symbols, is_separator, is_comment_sign, is_in_comment, IsRun, decimal, BeginsWithSymbol, IsPiece, are_ranks, named_by, blank, comment, word, ranks, no_word, number, long, symbol, stray}
+use Rattle.cond_lang.specs.Cut.{words, symbols, is_separator, is_comment_sign, is_in_comment, IsRun, decimal}
+use Rattle.cond_lang.specs.Cut.{BeginsWithSymbol, IsPiece, are_ranks, named_by, blank, comment, word, ranks, no_word}
+use Rattle.cond_lang.specs.Cut.{number, long, symbol, stray}
 use Rattle.cond_lang.specs.Runs.{run}
-use Rattle.cond_lang.specs.internal.Scanning.{token_of, begins_with, symbol_after, token_or, word_piece, ranks_piece, number_piece, symbol_piece, piece_at}
+use Rattle.cond_lang.specs.internal.Scanning.{token_of, begins_with, symbol_after, token_or, word_piece, ranks_piece}
+use Rattle.cond_lang.specs.internal.Scanning.{number_piece, symbol_piece, piece_at}
 use Rattle.cond_lang.proofs.Tables.{pick, words_apart, no_ranks_word, token_of-entry, entry_of, at_entry}
-use Rattle.cond_lang.proofs.Runs.{run-append, run_all, run_ends, run_split, lowercase_no_separator, digit_no_separator, digit_no_lowercase, sign_no_separator, lowercase_no_sign, digit_no_sign, sign_in_comment}
+use Rattle.cond_lang.proofs.Runs.{run-append, run_all, run_ends, run_split, lowercase_no_separator}
+use Rattle.cond_lang.proofs.Runs.{digit_no_separator, digit_no_lowercase, sign_no_separator, lowercase_no_sign}
+use Rattle.cond_lang.proofs.Runs.{digit_no_sign, sign_in_comment}
 use Rattle.cond_lang.proofs.Symbols.{IsAtLeast, goes_on, IsSymbolOf, symbol_is, fits}
 
 -- The piece that is found is the only one.
@@ -30,7 +36,8 @@ only_word (c ∷ p) rest r =
     ∙ ap (λ n. let x : Piece × ℕ = (word_piece (take n (c ∷ p ++ rest)), n) in x) count
     ∙ ap (λ q. let x : Piece × ℕ = (word_piece q, length (c ∷ p)) in x) (take-append_seam (c ∷ p) rest)
 
-only_comment : (c : ℕ) (p rest : List ℕ) → is_comment_sign c ≡ true → IsRun is_in_comment (c ∷ p) rest → piece_at (c ∷ p ++ rest) ≡ (Separator, length (c ∷ p))
+only_comment : (c : ℕ) (p rest : List ℕ) → is_comment_sign c ≡ true → IsRun is_in_comment (c ∷ p) rest
+    → piece_at (c ∷ p ++ rest) ≡ (Separator, length (c ∷ p))
 only_comment c p rest sign r =
     let count : run is_in_comment (c ∷ p ++ rest) ≡ length (c ∷ p) = run-append is_in_comment (c ∷ p) rest r.all r.ends in
     cond-false (is_separator c) _ _ (sign_no_separator c sign)
@@ -58,10 +65,34 @@ IsLongest p rest = (q : List ℕ) → BeginsWithSymbol q (p ++ rest) → length 
 longer : (q : List ℕ) (t : Token) (text : List ℕ) → token_of symbols q ≡ Some t → (more : List ℕ) → text ≡ q ++ more → BeginsWithSymbol q text
 longer q t text e more b = record { token = t; more = more; known = entry_of symbols q t e; begins = b }
 
-only_symbol : (p : List ℕ) (t : Token) → Contains symbols (p, t) → (rest : List ℕ) → IsLongest p rest → piece_at (p ++ rest) ≡ (TokenPiece t, length p)
+only_symbol : (p : List ℕ) (t : Token) → Contains symbols (p, t) → (rest : List ℕ) → IsLongest p rest
+    → piece_at (p ++ rest) ≡ (TokenPiece t, length p)
 only_symbol =
-    at_entry (λ p t. (rest : List ℕ) → IsLongest p rest → piece_at (p ++ rest) ≡ (TokenPiece t, length p)) symbols
-    (λ r l. refl, (λ r l. refl, (λ r l. refl, (λ r l. refl, (λ r l. refl, (λ r l. refl, (λ r l. refl, (λ r l. refl, (less, (λ r l. refl, (more, (λ r l. refl, tt))))))))))))
+    at_entry (λ p t. (rest : List ℕ) → IsLongest p rest → piece_at (p ++ rest) ≡ (TokenPiece t, length p)) symbols (
+      λ r l. refl,
+      (
+        λ r l. refl,
+        (
+          λ r l. refl,
+          (
+            λ r l. refl,
+            (
+              λ r l. refl,
+              (
+                λ r l. refl,
+                (
+                  λ r l. refl,
+                  (
+                    λ r l. refl,
+                    (less, (λ r l. refl, (more, (λ r l. refl, tt)))),
+                  ),
+                ),
+              ),
+            ),
+          ),
+        ),
+      ),
+    )
   where
     less : (rest : List ℕ) → IsLongest (60 ∷ []) rest → piece_at (60 ∷ rest) ≡ (TokenPiece (Relation Less), 1)
     less rest l =
@@ -107,9 +138,14 @@ pub only_piece : {p rest : List ℕ} {k : Piece} → IsPiece p rest k → piece_
 unfolding ranks_piece
 only_piece (blank {c} {rest} h) = rw h refl
 only_piece (comment {c} {p} {rest} h r) = only_comment c p rest h r
-only_piece (word {p} {rest} {t} r m) = only_word p rest r ∙ as_piece _ _ (length p) (ap (token_or (ranks_piece p)) (token_of-entry words p t words_apart m))
-only_piece (ranks {p} {rest} r h) = only_word p rest r ∙ as_piece _ _ (length p) (ap (token_or (ranks_piece p)) (no_entry p (token_of words p) refl (no_ranks_word p h)) ∙ cond-true (are_ranks p) _ _ h)
-only_piece (no_word {p} {rest} r n h) = only_word p rest r ∙ as_piece _ _ (length p) (ap (token_or (ranks_piece p)) (no_entry p (token_of words p) refl n) ∙ cond-false (are_ranks p) _ _ h)
+only_piece (word {p} {rest} {t} r m) = only_word p rest r
+    ∙ as_piece _ _ (length p) (ap (token_or (ranks_piece p)) (token_of-entry words p t words_apart m))
+only_piece (ranks {p} {rest} r h) = only_word p rest r
+    ∙ as_piece _ _ (length p) (ap (token_or (ranks_piece p)) (no_entry p (token_of words p) refl (no_ranks_word p h))
+    ∙ cond-true (are_ranks p) _ _ h)
+only_piece (no_word {p} {rest} r n h) = only_word p rest r
+    ∙ as_piece _ _ (length p) (ap (token_or (ranks_piece p)) (no_entry p (token_of words p) refl n)
+    ∙ cond-false (are_ranks p) _ _ h)
 only_piece (number {p} {rest} r few) = only_number p rest r ∙ as_piece _ _ (length p) (short_number p few)
 only_piece (long {p} {rest} r many) = only_number p rest r ∙ as_piece _ _ (length p) (long_number p many)
 only_piece (symbol {p} {rest} {t} m l) = only_symbol p t m rest l
@@ -134,9 +170,14 @@ known_word p rest None r e =
 known_word p rest (Some t) r e = (TokenPiece t, word r (entry_of words p t e))
 
 known_number : (p rest : List ℕ) → IsRun is_ascii_digit p rest → (k : Piece) × IsPiece p rest k
-known_number p rest r = elim (cases_lt 4 (length p)) [ inl many ↦ (LongNumber, long r many) | inr few ↦ (TokenPiece (Number (decimal p)), number r few) ]
+known_number p rest r = elim (cases_lt 4 (length p)) [
+  | inl many ↦ (LongNumber, long r many)
+  | inr few ↦
+      (TokenPiece (Number (decimal p)), number r few)
+]
 
-first_run : (f : ℕ → Bool) (c : ℕ) (s : List ℕ) → f c ≡ true → ((p rest : List ℕ) → IsRun f p rest → (k : Piece) × IsPiece p rest k) → FirstPiece (c ∷ s)
+first_run : (f : ℕ → Bool) (c : ℕ) (s : List ℕ) → f c ≡ true
+    → ((p rest : List ℕ) → IsRun f p rest → (k : Piece) × IsPiece p rest k) → FirstPiece (c ∷ s)
 first_run f c s h known =
     let n : ℕ = run f (c ∷ s) in
     let r = run_split f c s h in

@@ -1,5 +1,6 @@
 -- Where reading stops is the first fault.
-use Rattle.std.proofs.Common.{◌≡◌, ℕ, ◌+◌, ◌-◌, ◌<◌, List, [], ◌∷◌, ◌++◌, length, take, refl, sym, ap, ◌∙◌, subst, append_assoc, length-append, arith, Result, Err}
+use Rattle.std.proofs.Common.{◌≡◌, ℕ, ◌+◌, ◌-◌, ◌<◌, List, [], ◌∷◌, ◌++◌, length, take, refl, sym, ap, ◌∙◌, subst}
+use Rattle.std.proofs.Common.{append_assoc, length-append, arith, Result, Err}
 use Rattle.std.proofs.lemmas.List.{length-map}
 use Rattle.cond_lang.specs.declared.scanner.Placed.{Placed}
 use Rattle.conditions.specs.declared.error.CondError.{CondError}
@@ -27,7 +28,8 @@ one_more : (D R : List Token) (c : Token) → take (length D + 1) (D ++ c ∷ R)
 one_more D R c = take-append-add D (c ∷ R) 1
 
 -- a reader of what the rules M spell, and no more
-module _ {A : Type 0} (M : List Token → A → Type 0) (p : Reader A) (reads : (S : List Token) → Reads M p S (p S)) (spelled : (T : List Token) (x : A) → M T x → p T ≡ got x []) where
+module _ {A : Type 0} (M : List Token → A → Type 0) (p : Reader A) (reads : (S : List Token) → Reads M p S (p S))
+    (spelled : (T : List Token) (x : A) → M T x → p T ≡ got x []) where
   -- where reading stops
   stuck_reads : (T R : List Token) → p T ≡ stuck R → Reads M p T (stuck R)
   stuck_reads T R e = subst (λ o. Reads M p T o) e (reads T)

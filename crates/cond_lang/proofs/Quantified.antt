@@ -23,7 +23,8 @@ abbrev pub AreEach : Meanings → Bound → AQuantifier → AClass → List Toke
 AreEach N E k c P t = (u : Form) × (more : List Form) × SpellsEach N E c (members E c) P (u ∷ more) × (t ≡ fold (joined k) u more)
 
 -- what is spelled with one member of the class is spelled with each
-pub each_spelled : (N : Meanings) (E : Bound) (k : AQuantifier) (c : AClass) (s : Choice) (T : List Token) (t : Form) → SpellsCond N (bind E c s) T t → (u : Form) × AreEach N E k c T u
+pub each_spelled : (N : Meanings) (E : Bound) (k : AQuantifier) (c : AClass) (s : Choice) (T : List Token) (t : Form)
+    → SpellsCond N (bind E c s) T t → (u : Form) × AreEach N E k c T u
 each_spelled N E k c s T t h =
     let each = some_each N E c T (λ u. spelled_with (bind_same (same_scope E) c s u) h) in
     (fold (joined k) each.0 each.1, (each.0, each.1, each.2, refl))
@@ -42,7 +43,8 @@ module _ (N : Meanings) (r : Readers) (reads : (E : Bound) (S : List Token) → 
   stuck_with_each : (S R : List Token) → r (bind E c first) a_cond S ≡ stuck R → each_reader r E k c S ≡ stuck R
   stuck_with_each S R e = each_stuck r E k c S R (λ s. shape_stuck (r (bind E c s) a_cond S) R (as_first s S ∙ ap shape e))
 
-  reads_stuck : (S R : List Token) → Reads (SpellsCond N (bind E c first)) (r (bind E c first) a_cond) S (stuck R) → r (bind E c first) a_cond S ≡ stuck R
+  reads_stuck : (S R : List Token) → Reads (SpellsCond N (bind E c first)) (r (bind E c first) a_cond) S (stuck R)
+      → r (bind E c first) a_cond S ≡ stuck R
       → Reads (AreEach N E k c) (each_reader r E k c) S (each_reader r E k c S)
   reads_stuck S R h e =
       let m = h.right in
@@ -93,7 +95,8 @@ module _ (N : Meanings) (r : Readers) (reads : (E : Bound) (S : List Token) → 
       λ X i. subst (λ ss. ReadsEach r E c (D ++ X) X ss (t.tree ∷ ts.0)) (sym m.2) (t.read X i, ts.2 X i) in
       let is : (X : List Token) → front X ≡ front R → each_reader r E k c (D ++ X) ≡ got (fold (joined k) t.tree ts.0) X =
       λ X i. each_got r E k c (D ++ X) X t.tree ts.0 (all X i) in
-      let each : SpellsEach N E c (members E c) D (t.tree ∷ ts.0) = subst (λ ss. SpellsEach N E c ss D (t.tree ∷ ts.0)) (sym m.2) (one_more t.spelled ts.1) in
+      let each : SpellsEach N E c (members E c) D (t.tree ∷ ts.0) =
+      subst (λ ss. SpellsEach N E c ss D (t.tree ∷ ts.0)) (sym m.2) (one_more t.spelled ts.1) in
       subst (λ o. Reads (AreEach N E k c) (each_reader r E k c) (D ++ R) o) (sym (is R refl))
       (record { done = D; cut = refl; same = is; right = (t.tree, ts.0, each, refl) })
 

@@ -17,7 +17,8 @@ use Rattle.cond_lang.specs.internal.Reading.{Outcome, got, stuck, after, Gives, 
 use Rattle.cond_lang.proofs.Bodies.{as_other, conds_same, values_same}
 use Rattle.cond_lang.proofs.Shapes.{shape}
 
-ends_as_value : (N : Meanings) (p : Params) (S : List Token) (o : Outcome Amount) → ends_body o ≡ true → body_by N p o S ≡ got (as_value N p S) (left_by o)
+ends_as_value : (N : Meanings) (p : Params) (S : List Token) (o : Outcome Amount) → ends_body o ≡ true
+    → body_by N p o S ≡ got (as_value N p S) (left_by o)
 ends_as_value N p S (got a (Close ∷ R)) e = refl
 ends_as_value N p S (got a []) e = absurd (cc)
 ends_as_value N p S (got a (c ∷ R)) e = absurd (cc)
@@ -36,7 +37,8 @@ got_alike {A} {B} (stuck R) (stuck S) e g = g
 is_got : {A : Type 0} (o : Outcome A) (x : A) (R : List Token) → o ≡ got x R → IsGot o
 is_got {A} o x R e = subst IsGot (sym e) tt
 
-module _ (N : Meanings) (p : Params) (S : List Token) (E : Bound) (bound : E ≡ given p first) (b : Bool) (is : b ≡ ends_body (reading N E a_value S)) where
+module _ (N : Meanings) (p : Params) (S : List Token) (E : Bound) (bound : E ≡ given p first) (b : Bool)
+    (is : b ≡ ends_body (reading N E a_value S)) where
   ends : ends_body (reading N (given p first) a_value S) ≡ b
   ends = ap (λ E. ends_body (reading N E a_value S)) (sym bound) ∙ sym is
 
@@ -48,7 +50,8 @@ module _ (N : Meanings) (p : Params) (S : List Token) (E : Bound) (bound : E ≡
       ∙ ap (λ R. got (as_value N p S) R) (sym left)
       ∙ ap (λ b. got (meaning_by N b p S) R) (sym t)
 
-  other_body : (o : Outcome Form) (Q : List Token) → b ≡ false → Q ≡ S → reading N E a_cond Q ≡ o → body N p S ≡ after o (λ _ R. got (as_condition N p S) R)
+  other_body : (o : Outcome Form) (Q : List Token) → b ≡ false → Q ≡ S → reading N E a_cond Q ≡ o
+      → body N p S ≡ after o (λ _ R. got (as_condition N p S) R)
   unfolding body
   other_body o Q f q e =
       as_other N p (reading N (given p first) a_value S) S (ends ∙ f)
@@ -59,7 +62,8 @@ module _ (N : Meanings) (p : Params) (S : List Token) (E : Bound) (bound : E ≡
   cond_body Q R t f q e = other_body (got t R) Q f q e ∙ ap (λ b. got (meaning_by N b p S) R) (sym f)
 
   pub err_body :
-      (Q R : List Token) (e : Refusal) (r : Result Named Refusal) → b ≡ false → Q ≡ S → r ≡ Err e → GivesBy (IsGrown 0) (Err e) R (reading N E a_cond Q)
+      (Q R : List Token) (e : Refusal) (r : Result Named Refusal) → b ≡ false → Q ≡ S → r ≡ Err e
+      → GivesBy (IsGrown 0) (Err e) R (reading N E a_cond Q)
       → Gives (meaning N) r R (body N p S)
   err_body Q R Syntax r f q i h = rw i (other_body (stuck R) Q f q h)
   err_body Q R Memory r f q i h = rw i tt

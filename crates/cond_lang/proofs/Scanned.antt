@@ -1,12 +1,14 @@
 -- One turn of the scanner: what is found so far and what is left tell what the whole text tells.
-use Rattle.std.proofs.Common.{◌≡◌, ℕ, ◌+◌, ◌<◌, List, [], ◌∷◌, ◌++◌, length, take, drop, Ok, Err, refl, sym, ap, ◌∙◌, subst, append_assoc, append-nil, length-append, arith}
+use Rattle.std.proofs.Common.{◌≡◌, ℕ, ◌+◌, ◌<◌, List, [], ◌∷◌, ◌++◌, length, take, drop, Ok, Err, refl, sym, ap, ◌∙◌}
+use Rattle.std.proofs.Common.{subst, append_assoc, append-nil, length-append, arith}
 use Rattle.std.proofs.Math.Seq.{drop-append_seam, take-append_seam}
 use Rattle.cond_lang.specs.declared.scanner.Token.{Token}
 use Rattle.cond_lang.specs.declared.scanner.Placed.{Placed}
 use Rattle.cond_lang.specs.declared.scanner.Piece.{Piece}
 use Rattle.cond_lang.specs.declared.scanner.Piece.TheVariants.{Separator, Token as TokenPiece}
 use Rattle.conditions.specs.declared.error.CondError.{CondError}
-use Rattle.cond_lang.specs.Cut.{Pieces, IsCut, end, piece, Naming, no_names, named_piece, naming_after, named_from, named, naming_behind, HasNames, HasTokens}
+use Rattle.cond_lang.specs.Cut.{Pieces, IsCut, end, piece, Naming, no_names, named_piece, naming_after, named_from}
+use Rattle.cond_lang.specs.Cut.{named, naming_behind, HasNames, HasTokens}
 use Rattle.cond_lang.specs.Faults.{HasFault}
 use Rattle.cond_lang.specs.internal.Scanning.{piece_at}
 use Rattle.cond_lang.proofs.Cuts.{some_cut}
@@ -145,11 +147,13 @@ ended :
     (text : List ℕ) (found : List Placed) (N : Naming) (at : ℕ) (s : List ℕ) (whole qs : Pieces)
     → IsCut text whole → IsCut s qs → told_from 0 (named whole) ≡ prepended found (told_from at (named_from N qs)) → length s ≡ 0
     → HasTokens text found
-ended text found N at s whole qs c end e h = told_tokens text found (record { pieces = whole; cut = c; found = e ∙ ap (λ L. Ok L) (append-nil found) })
+ended text found N at s whole qs c end e h = told_tokens text found
+    (record { pieces = whole; cut = c; found = e ∙ ap (λ L. Ok L) (append-nil found) })
 ended text found N at s whole qs c (piece {p} {rest} l i d) e h = absurd (omega (arith, length-append p rest))
 
 -- When nothing is left, what was found are the text's tokens.
-pub none_left : (text : List ℕ) (found : List Placed) (N : Naming) (at : ℕ) (s : List ℕ) → IsLeft text found N at s → length s ≡ 0 → HasTokens text found
+pub none_left : (text : List ℕ) (found : List Placed) (N : Naming) (at : ℕ) (s : List ℕ) → IsLeft text found N at s
+    → length s ≡ 0 → HasTokens text found
 none_left text found N at s l h = ended text found N at s l.whole l.left l.whole_cut l.left_cut l.same h
 
 -- These names are given, and s is left of the text.
@@ -186,7 +190,8 @@ pub named_next :
     → IsNamedTo text N s → 0 < length s → first ≡ piece_at s → IsNamedTo text (then_named N s first) (drop first.1 s)
 named_next text N s first l h f = named_at text N s first l.whole l.left l.whole_cut l.left_cut l.same h f
 
-all_named : (text : List ℕ) (N : Naming) (s : List ℕ) (whole qs : Pieces) → IsCut text whole → IsCut s qs → naming_behind no_names whole ≡ naming_behind N qs → length s ≡ 0 → HasNames text N.given
+all_named : (text : List ℕ) (N : Naming) (s : List ℕ) (whole qs : Pieces) → IsCut text whole → IsCut s qs
+    → naming_behind no_names whole ≡ naming_behind N qs → length s ≡ 0 → HasNames text N.given
 all_named text N s whole qs c end e h = record { pieces = whole; cut = c; given = sym (ap (λ N. N.given) e) }
 all_named text N s whole qs c (piece {p} {rest} l i d) e h = absurd (omega (arith, length-append p rest))
 

@@ -148,10 +148,17 @@ pub bindable_quantifies : (E : Bound) (c : AClass) → can_bind E c ≡ true →
 bindable_quantifies E AnySuit e = or_left (can_bind E AnySuit) _ e
 bindable_quantifies E Major e = or_right (can_bind E AnySuit) _ (or_left (can_bind E Major) _ e)
 bindable_quantifies E Minor e = or_right (can_bind E AnySuit) _ (or_right (can_bind E Major) _ (or_left (can_bind E Minor) _ e))
-bindable_quantifies E Other e = or_right (can_bind E AnySuit) _ (or_right (can_bind E Major) _ (or_right (can_bind E Minor) _ (or_left (can_bind E Other) _ e)))
-bindable_quantifies E AnySeat e = or_right (can_bind E AnySuit) _ (or_right (can_bind E Major) _ (or_right (can_bind E Minor) _ (or_right (can_bind E Other) _ (or_left (can_bind E AnySeat) _ e))))
-bindable_quantifies E NorthSouth e = or_right (can_bind E AnySuit) _ (or_right (can_bind E Major) _ (or_right (can_bind E Minor) _ (or_right (can_bind E Other) _ (or_right (can_bind E AnySeat) _ (or_left (can_bind E NorthSouth) _ e)))))
-bindable_quantifies E EastWest e = or_right (can_bind E AnySuit) _ (or_right (can_bind E Major) _ (or_right (can_bind E Minor) _ (or_right (can_bind E Other) _ (or_right (can_bind E AnySeat) _ (or_right (can_bind E NorthSouth) _ e)))))
+bindable_quantifies E Other e = or_right (can_bind E AnySuit) _
+    (or_right (can_bind E Major) _ (or_right (can_bind E Minor) _ (or_left (can_bind E Other) _ e)))
+bindable_quantifies E AnySeat e = or_right (can_bind E AnySuit) _
+    (or_right (can_bind E Major) _ (or_right (can_bind E Minor) _
+    (or_right (can_bind E Other) _ (or_left (can_bind E AnySeat) _ e))))
+bindable_quantifies E NorthSouth e = or_right (can_bind E AnySuit) _
+    (or_right (can_bind E Major) _ (or_right (can_bind E Minor) _
+    (or_right (can_bind E Other) _ (or_right (can_bind E AnySeat) _ (or_left (can_bind E NorthSouth) _ e)))))
+bindable_quantifies E EastWest e = or_right (can_bind E AnySuit) _
+    (or_right (can_bind E Major) _ (or_right (can_bind E Minor) _
+    (or_right (can_bind E Other) _ (or_right (can_bind E AnySeat) _ (or_right (can_bind E NorthSouth) _ e)))))
 
 -- ---- each class has a member
 
@@ -172,14 +179,16 @@ one_of_or true b = omega arith
 one_of_or false b = omega arith
 
 -- a class stands for one suit at most
-at_most_one : (o : Option ASuit) → cond (is_this o Spades) 1 0 + (cond (is_this o Hearts) 1 0 + (cond (is_this o Diamonds) 1 0 + cond (is_this o Clubs) 1 0)) ≤ 1
+at_most_one : (o : Option ASuit) → cond (is_this o Spades) 1 0
+    + (cond (is_this o Hearts) 1 0 + (cond (is_this o Diamonds) 1 0 + cond (is_this o Clubs) 1 0)) ≤ 1
 at_most_one None = omega arith
 at_most_one (Some Spades) = omega arith
 at_most_one (Some Hearts) = omega arith
 at_most_one (Some Diamonds) = omega arith
 at_most_one (Some Clubs) = omega arith
 
-taken_count : (E : Bound) (s : ASuit) → cond (is_taken E s) 1 0 ≤ cond (is_this E.suit s) 1 0 + (cond (is_this E.major s) 1 0 + cond (is_this E.minor s) 1 0)
+taken_count : (E : Bound) (s : ASuit) → cond (is_taken E s) 1 0 ≤ cond (is_this E.suit s) 1 0
+    + (cond (is_this E.major s) 1 0 + cond (is_this E.minor s) 1 0)
 taken_count E s =
     omega (arith, one_of_or (is_this E.suit s) (is_this E.major s || is_this E.minor s), one_of_or (is_this E.major s) (is_this E.minor s))
 

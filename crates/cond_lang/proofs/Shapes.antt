@@ -11,11 +11,23 @@ use Rattle.cond_lang.specs.declared.classes.Params.{Params}
 use Rattle.cond_lang.specs.declared.classes.Params.TheVariants.{Plain, OfSeat, OfSuit, OfBoth}
 use Rattle.cond_lang.specs.declared.classes.Quantifier.{Quantifier as AQuantifier}
 use Rattle.cond_lang.specs.declared.scanner.Token.{Token}
-use Rattle.cond_lang.specs.declared.scanner.Token.TheVariants.{Or, And, Not, Balanced, Shape, Pattern, Quantifier, Stops, Measure, Cards, Len, Longest, Second, Shortest, In, Seat, Suit, Class, Neighbour, Number, Open, Comma, Plus, Star, Name}
+use Rattle.cond_lang.specs.declared.scanner.Token.TheVariants.{Or, And, Not, Balanced, Shape, Pattern, Quantifier}
+use Rattle.cond_lang.specs.declared.scanner.Token.TheVariants.{Stops, Measure, Cards, Len, Longest, Second, Shortest}
+use Rattle.cond_lang.specs.declared.scanner.Token.TheVariants.{In, Seat, Suit, Class, Neighbour, Number, Open, Comma}
+use Rattle.cond_lang.specs.declared.scanner.Token.TheVariants.{Plus, Star, Name}
 use Rattle.conditions.specs.Form.{Amount, measured, suit_measured, cards_held, Form, balanced}
 use Rattle.cond_lang.specs.Classes.{bound_to, seat_bound_to, seat_beside, bind, all_choices, members}
 use Rattle.cond_lang.specs.Grammar.{Meaning, Meanings, condition, value}
-use Rattle.cond_lang.specs.internal.Reading.{Outcome, got, stuck, Reader, after, opened, comma, class_seat, seat, open_seat, open_seat_comma, seat_in_brackets, seat_and_items, items, comma_ranks_close, ranks_close, relation, range, class_suit, suit, quantifier, class, closing, closed, comma_suit_close, rest_of_measure, suit_and_ranks, rest_of_cards, seat_and_suit, count_of, count_alone, rest_of_number, number_or_count, suit_in_brackets, args, value_used, atom_of, condition_used_by, Goal, a_cond, a_both, a_unit, ors, ands, a_value, sums, Readers, compared_by, related_by, comparing_by, sums_by, each_by, bracketed_by, quantified_by, unit_by, ors_by, ands_by, step, steps}
+use Rattle.cond_lang.specs.internal.Reading.{Outcome, got, stuck, Reader, after, opened, comma, class_seat, seat}
+use Rattle.cond_lang.specs.internal.Reading.{open_seat, open_seat_comma, seat_in_brackets, seat_and_items, items}
+use Rattle.cond_lang.specs.internal.Reading.{comma_ranks_close, ranks_close, relation, range, class_suit, suit}
+use Rattle.cond_lang.specs.internal.Reading.{quantifier, class, closing, closed, comma_suit_close, rest_of_measure}
+use Rattle.cond_lang.specs.internal.Reading.{suit_and_ranks, rest_of_cards, seat_and_suit, count_of, count_alone}
+use Rattle.cond_lang.specs.internal.Reading.{rest_of_number, number_or_count, suit_in_brackets, args, value_used}
+use Rattle.cond_lang.specs.internal.Reading.{atom_of, condition_used_by, Goal, a_cond, a_both, a_unit, ors, ands}
+use Rattle.cond_lang.specs.internal.Reading.{a_value, sums, Readers, compared_by, related_by, comparing_by, sums_by}
+use Rattle.cond_lang.specs.internal.Reading.{each_by, bracketed_by, quantified_by, unit_by, ors_by, ands_by, step}
+use Rattle.cond_lang.specs.internal.Reading.{steps}
 use Rattle.cond_lang.proofs.Scopes.{SameScope, suits_alike, seats_alike, first, same_scope, bind_same, can_bind_same, can_quantify_same, members_some}
 use Rattle.cond_lang.proofs.Members.{ReadsEach, each_got, each_stuck}
 
@@ -104,7 +116,8 @@ module _ {E F : Bound} (f : SameScope E F) where
       after_alike (comma_suit_close E R) (comma_suit_close F R) _ _ (comma_suit_close_alike R) (λ s t R. refl))
 
   rest_of_measure_alike : (m : AMeasure) (q p : ASeat) (S : List Token) → shape (rest_of_measure E m q S) ≡ shape (rest_of_measure F m p S)
-  rest_of_measure_alike m q p (Comma ∷ S) = after_alike (suit E S) (suit F S) _ _ (suit_alike S) (λ s t R. closing_alike (suit_measured m q s) (suit_measured m p t) R)
+  rest_of_measure_alike m q p (Comma ∷ S) = after_alike (suit E S) (suit F S) _ _ (suit_alike S)
+      (λ s t R. closing_alike (suit_measured m q s) (suit_measured m p t) R)
   rest_of_measure_alike m q p [] = closing_alike (measured m q) (measured m p) []
   rest_of_measure_alike m q p (x ∷ S) = closing_alike (measured m q) (measured m p) (x ∷ S)
 
@@ -113,7 +126,8 @@ module _ {E F : Bound} (f : SameScope E F) where
       after_alike (suit E S) (suit F S) _ _ (suit_alike S) (λ s t R.
       after_alike (comma_ranks_close R) (comma_ranks_close R) _ _ refl (λ h g R. refl))
 
-  ranks_alike : (q p : ASeat) (S : List Token) → shape (after (ranks_close S) (λ h R. got (cards_held q h) R)) ≡ shape (after (ranks_close S) (λ h R. got (cards_held p h) R))
+  ranks_alike : (q p : ASeat) (S : List Token) → shape (after (ranks_close S) (λ h R. got (cards_held q h) R)) ≡ shape
+      (after (ranks_close S) (λ h R. got (cards_held p h) R))
   ranks_alike q p S = after_alike (ranks_close S) (ranks_close S) _ _ refl (λ h g R. refl)
 
   rest_of_cards_alike : (q p : ASeat) (S : List Token) → shape (rest_of_cards E q S) ≡ shape (rest_of_cards F p S)
@@ -242,7 +256,8 @@ module _ (N : Meanings) (r : Readers) (k : AreAlike r) (E F : Bound) (f : SameSc
   compares_alike : (S : List Token) → shape (comparing_by r E S) ≡ shape (comparing_by r F S)
   compares_alike S = after_alike (r E a_value S) (r F a_value S) _ _ (k E F f a_value a_value values S) (λ a b R. related_alike a b R)
 
-  each_alike : (j l : AQuantifier) (c : AClass) (S : List Token) → shape (each_by r E j c S all_choices None S) ≡ shape (each_by r F l c S all_choices None S)
+  each_alike : (j l : AQuantifier) (c : AClass) (S : List Token)
+      → shape (each_by r E j c S all_choices None S) ≡ shape (each_by r F l c S all_choices None S)
   each_alike j l c S =
       each_shape r E j c S (λ s. k (bind E c s) (bind E c first) (bind_same (same_scope E) c s first) a_cond a_cond conds S)
       ∙ k (bind E c first) (bind F c first) (bind_same f c first first) a_cond a_cond conds S
@@ -251,15 +266,18 @@ module _ (N : Meanings) (r : Readers) (k : AreAlike r) (E F : Bound) (f : SameSc
   bracketed_alike : (j l : AQuantifier) (c : AClass) (S : List Token) → shape (bracketed_by r E j c S) ≡ shape (bracketed_by r F l c S)
   bracketed_alike j l c S =
       after_alike (opened S) (opened S) _ _ refl (λ _ _ R.
-      after_alike (each_by r E j c R all_choices None R) (each_by r F l c R all_choices None R) _ _ (each_alike j l c R) (λ a b R. closing_alike a b R))
+      after_alike (each_by r E j c R all_choices None R) (each_by r F l c R all_choices None R) _ _
+      (each_alike j l c R) (λ a b R. closing_alike a b R))
 
-  brackets_alike : (j : AQuantifier) (o : Outcome AClass) → shape (after o (λ c S. bracketed_by r E j c S)) ≡ shape (after o (λ c S. bracketed_by r F j c S))
+  brackets_alike : (j : AQuantifier) (o : Outcome AClass)
+      → shape (after o (λ c S. bracketed_by r E j c S)) ≡ shape (after o (λ c S. bracketed_by r F j c S))
   brackets_alike j (stuck R) = refl
   brackets_alike j (got c R) = bracketed_alike j j c R
 
   classes_alike :
       (o : Outcome AQuantifier)
-      → shape (after o (λ k S. after (class E S) (λ c S. bracketed_by r E k c S))) ≡ shape (after o (λ k S. after (class F S) (λ c S. bracketed_by r F k c S)))
+      → shape (after o (λ k S. after (class E S) (λ c S. bracketed_by r E k c S))) ≡ shape
+      (after o (λ k S. after (class F S) (λ c S. bracketed_by r F k c S)))
   classes_alike (stuck R) = refl
   classes_alike (got j R) = ap (λ o. shape (after o (λ c S. bracketed_by r E j c S))) (class_alike f R) ∙ brackets_alike j (class F R)
 
@@ -276,7 +294,8 @@ module _ (N : Meanings) (r : Readers) (k : AreAlike r) (E F : Bound) (f : SameSc
   unit_alike (Not ∷ S) = after_alike (r E a_unit S) (r F a_unit S) _ _ (k E F f a_unit a_unit units S) (λ a b R. refl)
   unit_alike (Open ∷ S) = after_alike (r E a_cond S) (r F a_cond S) _ _ (k E F f a_cond a_cond conds S) (λ a b R. closing_alike a b R)
   unit_alike (Quantifier j ∷ S) = quantified_alike (Quantifier j ∷ S)
-  unit_alike (Balanced ∷ S) = after_alike (open_seat E S) (open_seat F S) _ _ (open_seat_alike f S) (λ q p R. closing_alike (balanced q) (balanced p) R)
+  unit_alike (Balanced ∷ S) = after_alike (open_seat E S) (open_seat F S) _ _ (open_seat_alike f S)
+      (λ q p R. closing_alike (balanced q) (balanced p) R)
   unit_alike (Shape ∷ S) = after_alike (seat_and_items E S) (seat_and_items F S) _ _ (seat_and_items_alike f S) (λ p q R. refl)
   unit_alike (Pattern ∷ S) = after_alike (seat_and_items E S) (seat_and_items F S) _ _ (seat_and_items_alike f S) (λ p q R. refl)
   unit_alike (Stops ∷ S) = after_alike (seat_and_suit E S) (seat_and_suit F S) _ _ (seat_and_suit_alike f S) (λ p q R. refl)
@@ -314,9 +333,11 @@ steps_alike N zero E F f g h i S = refl
 steps_alike N (suc n) E F f g h i S = step_alike N (steps N n) (λ E F f g h i S. steps_alike N n E F f g h i S) E F f i S
 
 -- what the steps read of a condition doesn't depend on the suits and seats
-pub conds_alike : (N : Meanings) (n : ℕ) (E F : Bound) → SameScope E F → (S : List Token) → shape (steps N n E a_cond S) ≡ shape (steps N n F a_cond S)
+pub conds_alike : (N : Meanings) (n : ℕ) (E F : Bound) → SameScope E F → (S : List Token)
+    → shape (steps N n E a_cond S) ≡ shape (steps N n F a_cond S)
 conds_alike N n E F f S = steps_alike N n E F f a_cond a_cond conds S
 
 -- nor of a value
-pub values_alike : (N : Meanings) (n : ℕ) (E F : Bound) → SameScope E F → (S : List Token) → shape (steps N n E a_value S) ≡ shape (steps N n F a_value S)
+pub values_alike : (N : Meanings) (n : ℕ) (E F : Bound) → SameScope E F → (S : List Token)
+    → shape (steps N n E a_value S) ≡ shape (steps N n F a_value S)
 values_alike N n E F f S = steps_alike N n E F f a_value a_value values S

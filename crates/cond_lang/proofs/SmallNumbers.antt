@@ -1,5 +1,6 @@
 -- A number of four digits is at most 9,999, and so are the numbers of the trees that tokens spell.
-use Rattle.std.proofs.Common.{◌≡◌, ℕ, zero, suc, slice_get, ◌+◌, ◌-◌, ◌≤◌, ◌&&◌, Bool, true, false, if◌then◌else◌, map, List, [], ◌∷◌, ◌++◌, Option, Some, None, length, refl, sym, subst, arith}
+use Rattle.std.proofs.Common.{◌≡◌, ℕ, zero, suc, slice_get, ◌+◌, ◌-◌, ◌≤◌, ◌&&◌, Bool, true, false, if◌then◌else◌}
+use Rattle.std.proofs.Common.{map, List, [], ◌∷◌, ◌++◌, Option, Some, None, length, refl, sym, subst, arith}
 use Rattle.std.proofs.lemmas.Bool.{false≢true}
 use Rattle.std.proofs.lemmas.Bool.Decides.{nat_tests}
 use Rattle.std.specs.Prelude.{All, Contains, fold}
@@ -18,12 +19,20 @@ use Rattle.cond_lang.specs.declared.scanner.Token.TheVariants.{Or, And, In, Dash
 use Rattle.cond_lang.specs.declared.scanner.Placed.{Placed}
 use Rattle.cond_lang.specs.declared.scanner.Piece.{Piece}
 use Rattle.cond_lang.specs.declared.scanner.Piece.TheVariants.{Separator, Token as TokenPiece, StrayByte, UnknownWord, LongNumber}
-use Rattle.cond_lang.specs.Cut.{words, symbols, decimal, IsPiece, blank, comment, word, ranks, no_word, number as number_piece, long, symbol, stray, Pieces, IsCut, end, piece, placed_from, token_at, HasTokens, Naming, no_names, name_number, name_or, named_piece, naming_after, named_from, named}
+use Rattle.cond_lang.specs.Cut.{words, symbols, decimal, IsPiece, blank, comment, word, ranks, no_word}
+use Rattle.cond_lang.specs.Cut.{number as number_piece, long, symbol, stray, Pieces, IsCut, end, piece, placed_from}
+use Rattle.cond_lang.specs.Cut.{token_at, HasTokens, Naming, no_names, name_number, name_or, named_piece}
+use Rattle.cond_lang.specs.Cut.{naming_after, named_from, named}
 use Rattle.conditions.specs.Form.{Amount, Form, shape, pattern, loose_shape, loose_pattern, is_any, number_of, shaped, patterned}
 use Rattle.conditions.specs.declared.tree.Item.{Item}
 use Rattle.conditions.specs.declared.tree.Item.TheVariants.{Length, Any}
-use Rattle.cond_lang.specs.Definitions.{IsBody, a_condition, a_value, IsDefinition, defines, AreDefinitions, none as no_more, one_more as one_name, defined, Spells, SpellsAmount}
-use Rattle.cond_lang.specs.Grammar.{Meaning, Meanings, condition, value, named_value, named_condition, a_count, multiple, SpellsHandTest, SpellsAtom, SpellsValue, atom, plus, a_number, item_token, SpellsCond, both, or, SpellsBoth, unit, and, SpellsUnit, not, brackets, quantified, SpellsEach, none, one_more, joined, test, comparison, in_range, of_hand, is_balanced, has_shape, has_pattern, has_stopper}
+use Rattle.cond_lang.specs.Definitions.{IsBody, a_condition, a_value, IsDefinition, defines, AreDefinitions}
+use Rattle.cond_lang.specs.Definitions.{none as no_more, one_more as one_name, defined, Spells, SpellsAmount}
+use Rattle.cond_lang.specs.Grammar.{Meaning, Meanings, condition, value, named_value, named_condition, a_count}
+use Rattle.cond_lang.specs.Grammar.{multiple, SpellsHandTest, SpellsAtom, SpellsValue, atom, plus, a_number}
+use Rattle.cond_lang.specs.Grammar.{item_token, SpellsCond, both, or, SpellsBoth, unit, and, SpellsUnit, not}
+use Rattle.cond_lang.specs.Grammar.{brackets, quantified, SpellsEach, none, one_more, joined, test, comparison}
+use Rattle.cond_lang.specs.Grammar.{in_range, of_hand, is_balanced, has_shape, has_pattern, has_stopper}
 use Rattle.conditions.specs.Limits.{AddsNumbersUpTo, HasNumbersUpTo}
 use Rattle.cond_lang.specs.Text.{kinds}
 use Rattle.cond_lang.proofs.Tables.{Table, EachEntry, at_entry, pick}
@@ -118,7 +127,8 @@ small_named N [] a = tt
 small_named N (p ∷ ps) a = (small_named_piece N p a.0, small_named (naming_after N p) ps a.1)
 
 small_tokens : (text : List ℕ) (ts : List Placed) → HasTokens text ts → AreSmall (kinds ts)
-small_tokens text ts h = subst (λ L. AreSmall (kinds L)) (sym h.found) (small_placed 0 (named h.pieces) (small_named no_names h.pieces (small_pieces h.cut)))
+small_tokens text ts h = subst (λ L. AreSmall (kinds L)) (sym h.found)
+    (small_placed 0 (named h.pieces) (small_named no_names h.pieces (small_pieces h.cut)))
 
 -- Trees.
 
@@ -165,20 +175,26 @@ small_item : (i : Item) → IsSmall (item_token i) → number_of i ≤ 9999
 small_item (Length n) h = h
 small_item Any h = omega arith
 
-small_items : (a b c d : Item) → IsSmall (item_token a) → IsSmall (item_token b) → IsSmall (item_token c) → IsSmall (item_token d) → All (λ i. number_of i ≤ 9999) (a ∷ b ∷ c ∷ d ∷ [])
-small_items a b c d h i j k = All-from_recursion (λ i. number_of i ≤ 9999) (a ∷ b ∷ c ∷ d ∷ []) (small_item a h, (small_item b i, (small_item c j, (small_item d k, tt))))
+small_items : (a b c d : Item) → IsSmall (item_token a) → IsSmall (item_token b) → IsSmall (item_token c)
+    → IsSmall (item_token d) → All (λ i. number_of i ≤ 9999) (a ∷ b ∷ c ∷ d ∷ [])
+small_items a b c d h i j k = All-from_recursion (λ i. number_of i ≤ 9999) (a ∷ b ∷ c ∷ d ∷ [])
+    (small_item a h, (small_item b i, (small_item c j, (small_item d k, tt))))
 
-small_four : (a b c d : Item) → IsSmall (item_token a) → IsSmall (item_token b) → IsSmall (item_token c) → IsSmall (item_token d) → All (λ n. n ≤ 9999) (map number_of (a ∷ b ∷ c ∷ d ∷ []))
-small_four a b c d h i j k = All-from_recursion (λ n. n ≤ 9999) (map number_of (a ∷ b ∷ c ∷ d ∷ [])) (small_item a h, (small_item b i, (small_item c j, (small_item d k, tt))))
+small_four : (a b c d : Item) → IsSmall (item_token a) → IsSmall (item_token b) → IsSmall (item_token c)
+    → IsSmall (item_token d) → All (λ n. n ≤ 9999) (map number_of (a ∷ b ∷ c ∷ d ∷ []))
+small_four a b c d h i j k = All-from_recursion (λ n. n ≤ 9999) (map number_of (a ∷ b ∷ c ∷ d ∷ []))
+    (small_item a h, (small_item b i, (small_item c j, (small_item d k, tt))))
 
 either : (m : ℕ) (b : Bool) (x y : Form) → HasNumbersUpTo m x → HasNumbersUpTo m y → HasNumbersUpTo m (if b then x else y)
 either m true x y h k = h
 either m false x y h k = k
 
-small_shape : (q : Seat) (items : List Item) → All (λ i. number_of i ≤ 9999) items → All (λ n. n ≤ 9999) (map number_of items) → HasNumbersUpTo 9999 (shaped q items)
+small_shape : (q : Seat) (items : List Item) → All (λ i. number_of i ≤ 9999) items
+    → All (λ n. n ≤ 9999) (map number_of items) → HasNumbersUpTo 9999 (shaped q items)
 small_shape q items h k = either 9999 (list_any is_any items) (loose_shape q items) (shape q (map number_of items)) h k
 
-small_pattern : (q : Seat) (items : List Item) → All (λ i. number_of i ≤ 9999) items → All (λ n. n ≤ 9999) (map number_of items) → HasNumbersUpTo 9999 (patterned q items)
+small_pattern : (q : Seat) (items : List Item) → All (λ i. number_of i ≤ 9999) items
+    → All (λ n. n ≤ 9999) (map number_of items) → HasNumbersUpTo 9999 (patterned q items)
 small_pattern q items h k = either 9999 (list_any is_any items) (loose_pattern q items) (pattern q (map number_of items)) h k
 
 -- trees that are joined
@@ -186,7 +202,8 @@ small_joined : (k : AQuantifier) (a b : Form) → HasNumbersUpTo 9999 a → HasN
 small_joined OneOf a b h i = (h, i)
 small_joined Every a b h i = (h, i)
 
-all_joined_small : (k : AQuantifier) (t : Form) (ts : List Form) → HasNumbersUpTo 9999 t → AllByRecursion (HasNumbersUpTo 9999) ts → HasNumbersUpTo 9999 (fold (joined k) t ts)
+all_joined_small : (k : AQuantifier) (t : Form) (ts : List Form) → HasNumbersUpTo 9999 t
+    → AllByRecursion (HasNumbersUpTo 9999) ts → HasNumbersUpTo 9999 (fold (joined k) t ts)
 all_joined_small k t [] h hs = h
 all_joined_small k t (u ∷ us) h hs = all_joined_small k (joined k t u) us (small_joined k t u h hs.0) hs.1
 
@@ -226,7 +243,8 @@ module _ {N : Meanings} (names : AreSmallNames N) where
     small_unit (test (named_condition {n} {p} {f} {x} i h)) s = small_meaning N n (condition p f) i names x
     small_unit (test (of_hand {Q} {R} {q} k h)) s = small_hand k q (right_small Q R s.1.1)
 
-    small_each : {E : Bound} {c : AClass} {ss : List Choice} {T : List Token} {ts : List Form} → SpellsEach N E c ss T ts → AreSmall T → AllByRecursion (HasNumbersUpTo 9999) ts
+    small_each : {E : Bound} {c : AClass} {ss : List Choice} {T : List Token} {ts : List Form}
+        → SpellsEach N E c ss T ts → AreSmall T → AllByRecursion (HasNumbersUpTo 9999) ts
     small_each none s = tt
     small_each (one_more h hs) s = (small_cond h s, small_each hs s)
 

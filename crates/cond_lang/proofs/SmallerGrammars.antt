@@ -9,7 +9,10 @@ use Rattle.cond_lang.specs.declared.classes.Choice.{Choice}
 use Rattle.cond_lang.specs.declared.classes.Class.{Class as AClass}
 use Rattle.cond_lang.specs.declared.classes.Class.TheVariants.{Seat as AnySeat, NorthSouth, EastWest}
 use Rattle.cond_lang.specs.declared.scanner.Token.{Token}
-use Rattle.cond_lang.specs.declared.scanner.Token.TheVariants.{Or, And, Not, Shape, Pattern, Quantifier, Stops, Measure, Cards, Longest, Second, Shortest, In, X, Seat, Class, Neighbour, Number, Dash, Open, Close, Plus, Star, Relation}
+use Rattle.cond_lang.specs.declared.scanner.Token.TheVariants.{Or, And, Not, Shape, Pattern, Quantifier, Stops}
+use Rattle.cond_lang.specs.declared.scanner.Token.TheVariants.{Measure, Cards, Longest, Second, Shortest, In, X, Seat}
+use Rattle.cond_lang.specs.declared.scanner.Token.TheVariants.{Class, Neighbour, Number, Dash, Open, Close, Plus}
+use Rattle.cond_lang.specs.declared.scanner.Token.TheVariants.{Star, Relation}
 use Rattle.cards.specs.declared.seat.Seat.{Seat as ASeat}
 use Rattle.conditions.specs.declared.tree.Count.{Count}
 use Rattle.conditions.specs.declared.tree.Item.{Item}
@@ -17,9 +20,20 @@ use Rattle.conditions.specs.declared.tree.Item.TheVariants.{Length, Any}
 use Rattle.conditions.specs.Form.{Amount, counted, Form, shaped, patterned}
 use Rattle.cond_lang.specs.Classes.{by_suit, by_class}
 use Rattle.cond_lang.specs.Definitions.{SpellsNameless}
-use Rattle.cond_lang.specs.Grammar.{named_value, named_condition, Addition, quantifiers, seats, factors, CountedOf, SpellsCounted, a_count, multiple, addition_of, everything, SeatOf, SpellsSeat, by_word, by_bound, beside, CountOf, SpellsCount, HandTestOf, SpellsHandTest, Amounts, FormsAt, AtomOf, SpellsAtom, a_number, count, measure, measure_in, len, cards, cards_in, longest_suit, second_suit, shortest_suit, ValueOf, atom, plus, four, CondOf, both, or, BothOf, unit, and, UnitOf, not, brackets, quantified, test, EachOf, none, one_more, TestOf, SpellsTest, comparison, in_range, of_hand, is_balanced, has_shape, has_pattern, has_stopper, SpellsValue}
+use Rattle.cond_lang.specs.Grammar.{named_value, named_condition, Addition, quantifiers, seats, factors, CountedOf}
+use Rattle.cond_lang.specs.Grammar.{SpellsCounted, a_count, multiple, addition_of, everything, SeatOf, SpellsSeat}
+use Rattle.cond_lang.specs.Grammar.{by_word, by_bound, beside, CountOf, SpellsCount, HandTestOf, SpellsHandTest}
+use Rattle.cond_lang.specs.Grammar.{Amounts, FormsAt, AtomOf, SpellsAtom, a_number, count, measure, measure_in, len}
+use Rattle.cond_lang.specs.Grammar.{cards, cards_in, longest_suit, second_suit, shortest_suit, ValueOf, atom, plus}
+use Rattle.cond_lang.specs.Grammar.{four, CondOf, both, or, BothOf, unit, and, UnitOf, not, brackets, quantified}
+use Rattle.cond_lang.specs.Grammar.{test, EachOf, none, one_more, TestOf, SpellsTest, comparison, in_range, of_hand}
+use Rattle.cond_lang.specs.Grammar.{is_balanced, has_shape, has_pattern, has_stopper, SpellsValue}
 use Rattle.cond_lang.specs.SmallerGrammars as small
-use Rattle.cond_lang.specs.SmallerGrammars.{SpellsWith, brought_by, no_factors, SpellsWithoutFactors, HcpCounted, no_seats, SpellsWithoutSeats, IsBeforeSeats, no_additions, SpellsEarlier, IsEarlier, HcpCount, SpellsWithoutSums, SpellsHcpAtom, SpellsWithHcpAlone, SpellsFirstAtom, FirstTestOf, SpellsInFirstWords, IsFirst, SpellsInFirstGrammar, IsOldest}
+use Rattle.cond_lang.specs.SmallerGrammars.{SpellsWith, brought_by, no_factors, SpellsWithoutFactors, HcpCounted}
+use Rattle.cond_lang.specs.SmallerGrammars.{no_seats, SpellsWithoutSeats, IsBeforeSeats, no_additions, SpellsEarlier}
+use Rattle.cond_lang.specs.SmallerGrammars.{IsEarlier, HcpCount, SpellsWithoutSums, SpellsHcpAtom, SpellsWithHcpAlone}
+use Rattle.cond_lang.specs.SmallerGrammars.{SpellsFirstAtom, FirstTestOf, SpellsInFirstWords, IsFirst}
+use Rattle.cond_lang.specs.SmallerGrammars.{SpellsInFirstGrammar, IsOldest}
 
 -- the list has no token of this kind
 abbrev HasNone : (Token → Type 0) → List Token → Type 0
@@ -62,7 +76,8 @@ turn_value B V W f T a (atom h) n = atom (f T a h n)
 turn_value B V W f T a (plus {L} {R} {a = x} {b = y} l r) n =
     plus (turn_value B V W f L x l (left_of B L Plus R n)) (f R y r (right_of B L Plus R n))
 
-turn_seat : (B : Token → Type 0) (P Q : Words) → TurnsWords B P Q → {E : Bound} {T : List Token} {q : ASeat} → SeatOf P E T q → HasNone B T → SeatOf Q E T q
+turn_seat : (B : Token → Type 0) (P Q : Words) → TurnsWords B P Q → {E : Bound} {T : List Token} {q : ASeat}
+    → SeatOf P E T q → HasNone B T → SeatOf Q E T q
 turn_seat B P Q w by_word n = by_word
 turn_seat B P Q w (by_bound {c = AnySeat} p e) n = by_bound (w (Class AnySeat) seats refl (none_first B (Class AnySeat) [] n) p) e
 turn_seat B P Q w (by_bound {c = NorthSouth} p e) n = by_bound (w (Class NorthSouth) seats refl (none_first B (Class NorthSouth) [] n) p) e
@@ -73,8 +88,11 @@ turn_seat B P Q w (beside {n = k} {Q = T} p h) n =
     (turn_seat B P Q w h (left_of B T Close [] (right_of B (Neighbour k ∷ []) Open (T ++ Close ∷ []) n)))
 
 -- the seat after a word and a bracket
-seat_of : (B : Token → Type 0) (P Q : Words) → TurnsWords B P Q → {E : Bound} (c : Token) (T R : List Token) (q : ASeat) → SeatOf P E T q → HasNone B (c ∷ Open ∷ T ++ R) → SeatOf Q E T q
-seat_of B P Q w c T R q h n = turn_seat B P Q w h (λ x b i. n x b (after_first c x (Open ∷ T ++ R) (after_first Open x (T ++ R) (Contains-append_left T R x i))))
+seat_of : (B : Token → Type 0) (P Q : Words) → TurnsWords B P Q
+    → {E : Bound} (c : Token) (T R : List Token) (q : ASeat) → SeatOf P E T q → HasNone B (c ∷ Open ∷ T ++ R)
+    → SeatOf Q E T q
+seat_of B P Q w c T R q h n = turn_seat B P Q w h (λ x b i. n x b
+    (after_first c x (Open ∷ T ++ R) (after_first Open x (T ++ R) (Contains-append_left T R x i))))
 
 turn_hand :
     (B : Token → Type 0) (P Q : Words) → TurnsWords B P Q → {E : Bound} {c : Token} {R : List Token} {f : ASeat → Form}
@@ -112,7 +130,8 @@ module _ (B : Token → Type 0) (P Q : Words) (w : TurnsWords B P Q) (U W : Form
         (turn_each each (left_of B T Close [] (right_of B (Quantifier k ∷ Class c ∷ []) Open (T ++ Close ∷ []) n)))
     turn_unit (test {E} {T} {t} h) n = test (f E T t h n)
 
-    turn_each : {E : Bound} {c : AClass} {ss : List Choice} {T : List Token} {ts : List Form} → EachOf P U E c ss T ts → HasNone B T → EachOf Q W E c ss T ts
+    turn_each : {E : Bound} {c : AClass} {ss : List Choice} {T : List Token} {ts : List Form} → EachOf P U E c ss T ts
+        → HasNone B T → EachOf Q W E c ss T ts
     turn_each none n = none
     turn_each (one_more h hs) n = one_more (turn_cond h n) (turn_each hs n)
 
@@ -151,7 +170,8 @@ TestsWith P E = TestOf P [] E (ValueOf (AtomOf P [] E))
 
 turn_words : (B : Token → Type 0) (P Q : Words) → TurnsWords B P Q → TurnsTests B (TestsWith P) (TestsWith Q)
 turn_words B P Q w E T t h n =
-    turn_test B P Q w E (ValueOf (AtomOf P [] E)) (ValueOf (AtomOf Q [] E)) (turn_value B (AtomOf P [] E) (AtomOf Q [] E) (turn_atom B P Q w E)) T t h n
+    turn_test B P Q w E (ValueOf (AtomOf P [] E)) (ValueOf (AtomOf Q [] E))
+    (turn_value B (AtomOf P [] E) (AtomOf Q [] E) (turn_atom B P Q w E)) T t h n
 
 -- from a grammar with some additions to one with others
 turn_all : (B : Token → Type 0) (P Q : Words) → TurnsWords B P Q → {T : List Token} {t : Form} → SpellsWith P T t → HasNone B T → SpellsWith Q T t
@@ -178,7 +198,11 @@ leaves_factors c seats e b w = tt
 leaves_factors c factors e b w = b (brought_star c e)
 
 pub same_before_factors : (T : List Token) (t : Form) → (Contains T Star → ⊥) → SpellsNameless T t ↔ SpellsWithoutFactors T t
-same_before_factors T t n = (λ h. turn_all IsStar everything no_factors leaves_factors h (λ c e i. n (subst (λ c. Contains T c) e i)), λ h. to_all no_factors h)
+same_before_factors T t n = (
+  λ h. turn_all IsStar everything no_factors leaves_factors h
+      (λ c e i. n (subst (λ c. Contains T c) e i)),
+  λ h. to_all no_factors h,
+)
 
 -- ---- without the words of seats too
 abbrev IsOfSeats : Token → Type 0
@@ -216,9 +240,11 @@ TestsWithoutSums E = TestOf everything [] E (SpellsAtom [] E)
 pub same_without_sums : (T : List Token) (t : Form) → (Contains T Plus → ⊥) → SpellsNameless T t ↔ SpellsWithoutSums T t
 same_without_sums T t n = (
   λ h. turn_cond IsPlus everything everything (keeps_words IsPlus everything) (SpellsTest []) TestsWithoutSums
-      (λ E. turn_test IsPlus everything everything (keeps_words IsPlus everything) E (SpellsValue [] E) (SpellsAtom [] E) (one_atom (SpellsAtom [] E))) h (λ c e. rw e n),
+      (λ E. turn_test IsPlus everything everything (keeps_words IsPlus everything) E (SpellsValue [] E)
+      (SpellsAtom [] E) (one_atom (SpellsAtom [] E))) h (λ c e. rw e n),
   λ h. turn_cond IsNone everything everything (keeps_words IsNone everything) TestsWithoutSums (SpellsTest [])
-      (λ E. turn_test IsNone everything everything (keeps_words IsNone everything) E (SpellsAtom [] E) (SpellsValue [] E) (λ T a v n. atom v)) h (λ c b. absurd b),
+      (λ E. turn_test IsNone everything everything (keeps_words IsNone everything) E (SpellsAtom [] E)
+      (SpellsValue [] E) (λ T a v n. atom v)) h (λ c b. absurd b),
 )
 
 -- ---- with hcp alone
@@ -264,12 +290,17 @@ atom_again E T a (small.multiple (small.count k h)) n = multiple tt (count (coun
 abbrev HcpTests : FormsAt
 HcpTests E = TestOf everything [] E (ValueOf (SpellsHcpAtom E))
 
-pub same_with_hcp_alone : (T : List Token) (t : Form) → ((m : AMeasure) → m ≢ Hcp → Contains T (Measure m) → ⊥) → SpellsNameless T t ↔ SpellsWithHcpAlone T t
+pub same_with_hcp_alone : (T : List Token) (t : Form) → ((m : AMeasure) → m ≢ Hcp → Contains T (Measure m) → ⊥)
+    → SpellsNameless T t ↔ SpellsWithHcpAlone T t
 same_with_hcp_alone T t n = (
   λ h. turn_cond IsOtherMeasure everything everything (keeps_words IsOtherMeasure everything) (SpellsTest []) HcpTests
-      (λ E. turn_test IsOtherMeasure everything everything (keeps_words IsOtherMeasure everything) E (SpellsValue [] E) (ValueOf (SpellsHcpAtom E)) (turn_value IsOtherMeasure (SpellsAtom [] E) (SpellsHcpAtom E) (hcp_atom E))) h (λ c b. rw b.2 (n b.0 b.1)),
+      (λ E. turn_test IsOtherMeasure everything everything (keeps_words IsOtherMeasure everything) E
+      (SpellsValue [] E) (ValueOf (SpellsHcpAtom E)) (turn_value IsOtherMeasure (SpellsAtom [] E)
+      (SpellsHcpAtom E) (hcp_atom E))) h (λ c b. rw b.2 (n b.0 b.1)),
   λ h. turn_cond IsNone everything everything (keeps_words IsNone everything) HcpTests (SpellsTest [])
-      (λ E. turn_test IsNone everything everything (keeps_words IsNone everything) E (ValueOf (SpellsHcpAtom E)) (SpellsValue [] E) (turn_value IsNone (SpellsHcpAtom E) (SpellsAtom [] E) (atom_again E))) h (λ c b. absurd b),
+      (λ E. turn_test IsNone everything everything (keeps_words IsNone everything) E (ValueOf (SpellsHcpAtom E))
+      (SpellsValue [] E) (turn_value IsNone (SpellsHcpAtom E) (SpellsAtom [] E) (atom_again E))) h
+      (λ c b. absurd b),
 )
 
 -- ---- in the first words
@@ -289,7 +320,8 @@ leaves_later : TurnsWords IsLater everything no_additions
 leaves_later c a e b w = b (brought_later c a e)
 
 -- a seat in the first words is one token
-first_seat : {E : Bound} {T : List Token} {q : ASeat} → SpellsSeat E T q → (c : Token) (R : List Token) → HasNone IsLater (c ∷ Open ∷ T ++ R) → T ≡ Seat q ∷ []
+first_seat : {E : Bound} {T : List Token} {q : ASeat} → SpellsSeat E T q → (c : Token) (R : List Token)
+    → HasNone IsLater (c ∷ Open ∷ T ++ R) → T ≡ Seat q ∷ []
 first_seat by_word c R n = refl
 first_seat (by_bound {c = d} w e) c R n = absurd (n (Class d) (λ h. h) (2, omega arith, refl))
 first_seat (beside {n = k} w h) c R n = absurd (n (Neighbour k) (λ h. h) (2, omega arith, refl))
@@ -322,14 +354,17 @@ first_atom E T a (a_count (count {c} {Q} {R} {q} {f} k h)) n =
 first_value : (E : Bound) → Turns IsLater (SpellsValue [] E) (ValueOf SpellsFirstAtom)
 first_value E = turn_value IsLater (SpellsAtom [] E) SpellsFirstAtom (first_atom E)
 
-first_shape : (q : ASeat) (a b c d : Item) → HasNone IsLater (Shape ∷ Open ∷ Seat q ∷ four a b c d) → FirstTestOf (ValueOf SpellsFirstAtom) (Shape ∷ Open ∷ Seat q ∷ four a b c d) (shaped q (a ∷ b ∷ c ∷ d ∷ []))
+first_shape : (q : ASeat) (a b c d : Item) → HasNone IsLater (Shape ∷ Open ∷ Seat q ∷ four a b c d)
+    → FirstTestOf (ValueOf SpellsFirstAtom) (Shape ∷ Open ∷ Seat q ∷ four a b c d) (shaped q (a ∷ b ∷ c ∷ d ∷ []))
 first_shape q (Length a) (Length b) (Length c) (Length d) n = small.has_shape
 first_shape q Any b c d n = absurd (n X (λ h. h) (4, omega arith, refl))
 first_shape q a Any c d n = absurd (n X (λ h. h) (6, omega arith, refl))
 first_shape q a b Any d n = absurd (n X (λ h. h) (8, omega arith, refl))
 first_shape q a b c Any n = absurd (n X (λ h. h) (10, omega arith, refl))
 
-first_pattern : (q : ASeat) (a b c d : Item) → HasNone IsLater (Pattern ∷ Open ∷ Seat q ∷ four a b c d) → FirstTestOf (ValueOf SpellsFirstAtom) (Pattern ∷ Open ∷ Seat q ∷ four a b c d) (patterned q (a ∷ b ∷ c ∷ d ∷ []))
+first_pattern : (q : ASeat) (a b c d : Item) → HasNone IsLater (Pattern ∷ Open ∷ Seat q ∷ four a b c d)
+    → FirstTestOf (ValueOf SpellsFirstAtom) (Pattern ∷ Open ∷ Seat q ∷ four a b c d)
+    (patterned q (a ∷ b ∷ c ∷ d ∷ []))
 first_pattern q (Length a) (Length b) (Length c) (Length d) n = small.has_pattern
 first_pattern q Any b c d n = absurd (n X (λ h. h) (4, omega arith, refl))
 first_pattern q a Any c d n = absurd (n X (λ h. h) (6, omega arith, refl))
@@ -352,7 +387,8 @@ first_test : TurnsTests IsLater (SpellsTest []) (FirstTests (ValueOf SpellsFirst
 first_test E T t (comparison {L} {R} {a} {b} {o} l r) n =
     small.comparison (first_value E L a l (left_of IsLater L (Relation o) R n)) (first_value E R b r (right_of IsLater L (Relation o) R n))
 first_test E T t (named_condition i h) n = absurd (cc)
-first_test E T t (in_range {L} {m} {n = k} l) n = absurd (n In (λ h. h) (Contains-append_right L (In ∷ Number m ∷ Dash ∷ Number k ∷ []) In (0, omega arith, refl)))
+first_test E T t (in_range {L} {m} {n = k} l) n = absurd
+    (n In (λ h. h) (Contains-append_right L (In ∷ Number m ∷ Dash ∷ Number k ∷ []) In (0, omega arith, refl)))
 first_test E T t (of_hand {c} {Q} {R} {q} {f} k h) n =
     let e = first_seat h c R n in
     subst (λ Q. FirstTestOf (ValueOf SpellsFirstAtom) (c ∷ Open ∷ Q ++ R) (f q)) (sym e)
@@ -376,8 +412,10 @@ first_test_again E T t (small.has_pattern {a} {b} {c} {d}) n = of_hand (has_patt
 
 pub same_in_first_words : (T : List Token) (t : Form) → ((c : Token) → Contains T c → IsFirst c) → SpellsNameless T t ↔ SpellsInFirstWords T t
 same_in_first_words T t n = (
-  λ h. turn_cond IsLater everything no_additions leaves_later (SpellsTest []) (FirstTests (ValueOf SpellsFirstAtom)) first_test h (λ c b i. b (n c i)),
-  λ h. turn_cond IsNone no_additions everything (λ c a e b w. tt) (FirstTests (ValueOf SpellsFirstAtom)) (SpellsTest []) first_test_again h (λ c b. absurd b),
+  λ h. turn_cond IsLater everything no_additions leaves_later (SpellsTest []) (FirstTests (ValueOf SpellsFirstAtom))
+      first_test h (λ c b i. b (n c i)),
+  λ h. turn_cond IsNone no_additions everything (λ c a e b w. tt) (FirstTests (ValueOf SpellsFirstAtom))
+      (SpellsTest []) first_test_again h (λ c b. absurd b),
 )
 
 -- ---- in the first grammar
@@ -400,11 +438,13 @@ first_words_again h =
 -- What the first grammar spells, the whole grammar spells too.
 pub spelled_again : {T : List Token} {t : Form} → SpellsInFirstGrammar T t → SpellsNameless T t
 spelled_again h =
-    turn_cond IsNone no_additions everything (λ c a e b w. tt) (FirstTests (ValueOf SpellsFirstAtom)) (SpellsTest []) first_test_again (first_words_again h) (λ c b. absurd b)
+    turn_cond IsNone no_additions everything (λ c a e b w. tt) (FirstTests (ValueOf SpellsFirstAtom)) (SpellsTest [])
+    first_test_again (first_words_again h) (λ c b. absurd b)
 
 pub same_in_first_grammar : (T : List Token) (t : Form) → ((c : Token) → Contains T c → IsOldest c) → SpellsNameless T t ↔ SpellsInFirstGrammar T t
 same_in_first_grammar T t n = (
-  λ h. turn_cond IsPlus no_additions no_additions (keeps_words IsPlus no_additions) (FirstTests (ValueOf SpellsFirstAtom)) (FirstTests SpellsFirstAtom)
+  λ h. turn_cond IsPlus no_additions no_additions (keeps_words IsPlus no_additions)
+      (FirstTests (ValueOf SpellsFirstAtom)) (FirstTests SpellsFirstAtom)
       (turn_first_test IsPlus (ValueOf SpellsFirstAtom) SpellsFirstAtom (one_atom SpellsFirstAtom))
       ((same_in_first_words T t (λ c i. oldest_first c (n c i))).0 h) (λ c e i. no_plus (subst IsOldest e (n c i))),
   spelled_again,

@@ -15,11 +15,24 @@ use Rattle.cond_lang.specs.declared.classes.Params.{Params}
 use Rattle.cond_lang.specs.declared.classes.Params.TheVariants.{OfSeat, OfBoth}
 use Rattle.cond_lang.specs.declared.classes.Quantifier.{Quantifier as AQuantifier}
 use Rattle.cond_lang.specs.declared.scanner.Token.{Token}
-use Rattle.cond_lang.specs.declared.scanner.Token.TheVariants.{Or, And, Not, Quantifier, In, Dash, Number, Class, Open, Close, Comma, Plus, Star, Relation, Name}
+use Rattle.cond_lang.specs.declared.scanner.Token.TheVariants.{Or, And, Not, Quantifier, In, Dash, Number, Class}
+use Rattle.cond_lang.specs.declared.scanner.Token.TheVariants.{Open, Close, Comma, Plus, Star, Relation, Name}
 use Rattle.conditions.specs.Form.{Amount, sum, number, counted, times, Form, any_of, all_of, negation, compare, within, shaped, patterned}
 use Rattle.cond_lang.specs.Classes.{bind, can_bind, choice, Names, by_suit, by_class, seat_beside}
-use Rattle.cond_lang.specs.Grammar.{Meanings, SpellsArgs, no_args, seat_arg, suit_arg, both_args, named_value, named_condition, SpellsCounted, a_count, multiple, SpellsSeat, by_word, by_bound, beside, SpellsCount, SpellsHandTest, SpellsAtom, SpellsValue, atom, plus, a_number, count, measure, measure_in, len, cards, cards_in, longest_suit, second_suit, shortest_suit, item_token, four, SpellsCond, both, or, SpellsBoth, unit, and, SpellsUnit, not, brackets, quantified, SpellsEach, none, one_more, test, comparison, in_range, of_hand, is_balanced, has_shape, has_pattern, has_stopper}
-use Rattle.cond_lang.specs.internal.Reading.{got, stuck, after, front, class_seat, seat, class_suit, suit, closing, item, items, seat_and_items, count_of, count_alone, rest_of_number, number_or_count, suit_in_brackets, seat_in_brackets, seat_and_suit, args, value_used, condition_used_by, atom_of, related_by, comparing_by, a_value, sums, a_cond, a_both, a_unit, ors, ands, bracketed_by, unit_by, class, reading}
+use Rattle.cond_lang.specs.Grammar.{Meanings, SpellsArgs, no_args, seat_arg, suit_arg, both_args, named_value}
+use Rattle.cond_lang.specs.Grammar.{named_condition, SpellsCounted, a_count, multiple, SpellsSeat, by_word, by_bound}
+use Rattle.cond_lang.specs.Grammar.{beside, SpellsCount, SpellsHandTest, SpellsAtom, SpellsValue, atom, plus}
+use Rattle.cond_lang.specs.Grammar.{a_number, count, measure, measure_in, len, cards, cards_in, longest_suit}
+use Rattle.cond_lang.specs.Grammar.{second_suit, shortest_suit, item_token, four, SpellsCond, both, or, SpellsBoth}
+use Rattle.cond_lang.specs.Grammar.{unit, and, SpellsUnit, not, brackets, quantified, SpellsEach, none, one_more}
+use Rattle.cond_lang.specs.Grammar.{test, comparison, in_range, of_hand, is_balanced, has_shape, has_pattern}
+use Rattle.cond_lang.specs.Grammar.{has_stopper}
+use Rattle.cond_lang.specs.internal.Reading.{got, stuck, after, front, class_seat, seat, class_suit, suit, closing}
+use Rattle.cond_lang.specs.internal.Reading.{item, items, seat_and_items, count_of, count_alone, rest_of_number}
+use Rattle.cond_lang.specs.internal.Reading.{number_or_count, suit_in_brackets, seat_in_brackets, seat_and_suit, args}
+use Rattle.cond_lang.specs.internal.Reading.{value_used, condition_used_by, atom_of, related_by, comparing_by}
+use Rattle.cond_lang.specs.internal.Reading.{a_value, sums, a_cond, a_both, a_unit, ors, ands, bracketed_by, unit_by}
+use Rattle.cond_lang.specs.internal.Reading.{class, reading}
 use Rattle.cond_lang.proofs.Scopes.{bindable_quantifies}
 use Rattle.cond_lang.proofs.Members.{ReadsEach, each_got}
 use Rattle.cond_lang.proofs.Enough.{reads}
@@ -58,7 +71,8 @@ counted_reads {E} (count {c} {Q} {R} {q} k h) B =
 suit_in_reads : {E : Bound} {c : Token} {s : ASuit} → Names E c s → (B : List Token) → suit_in_brackets E (Open ∷ c ∷ Close ∷ B) ≡ got s B
 suit_in_reads i B = rw (named_reads i (Close ∷ B)) refl
 
-seat_in_reads : (E : Bound) (Q : List Token) (q : ASeat) (B : List Token) → seat E (Q ++ (Close ∷ B)) ≡ got q (Close ∷ B) → seat_in_brackets E (Open ∷ (Q ++ (Close ∷ B))) ≡ got q B
+seat_in_reads : (E : Bound) (Q : List Token) (q : ASeat) (B : List Token)
+    → seat E (Q ++ (Close ∷ B)) ≡ got q (Close ∷ B) → seat_in_brackets E (Open ∷ (Q ++ (Close ∷ B))) ≡ got q B
 seat_in_reads E Q q B h = rw h refl
 
 pair_reads :
@@ -78,7 +92,8 @@ args_read {E} (both_args {Q} {q} {c} h i) B =
     ∙ ap (λ o. after o (λ p R. got (choice p.1 p.0) R)) (pair_reads i Q q B (seat_reads h (Comma ∷ c ∷ Close ∷ B)))
 
 -- a word that counts begins no number
-as_count : {E : Bound} {c : Token} {R : List Token} {f : ASeat → Count} → SpellsCount E c R f → (N : Meanings) (X : List Token) → atom_of N E (c ∷ X) ≡ count_alone E (c ∷ X)
+as_count : {E : Bound} {c : Token} {R : List Token} {f : ASeat → Count} → SpellsCount E c R f
+    → (N : Meanings) (X : List Token) → atom_of N E (c ∷ X) ≡ count_alone E (c ∷ X)
 unfolding atom_of number_or_count
 as_count measure N X = refl
 as_count (measure_in i) N X = refl
@@ -95,7 +110,8 @@ number_ends E n [] h = refl
 number_ends E n (Star ∷ B) h = absurd (h refl)
 number_ends E n (c ∷ B) h = refl
 
-atom_reads : {N : Meanings} {E : Bound} {A : List Token} {a : Amount} → SpellsAtom N E A a → (B : List Token) → front B ≢ Some Star → atom_of N E (A ++ B) ≡ got a B
+atom_reads : {N : Meanings} {E : Bound} {A : List Token} {a : Amount} → SpellsAtom N E A a → (B : List Token)
+    → front B ≢ Some Star → atom_of N E (A ++ B) ≡ got a B
 unfolding atom_of number_or_count
 atom_reads {N} {E} (a_number {n}) B s = number_ends E n B s
 atom_reads {N} {E} (a_count (count {c} {Q} {R} {q} k h)) B s =
@@ -108,7 +124,8 @@ atom_reads {N} {E} (multiple {n} w h) B s = ap (λ o. after o (λ k R. got (time
 abbrev pub EndsValue : List Token → Type 0
 EndsValue B = (front B ≢ Some Plus) × (front B ≢ Some Star)
 
-pub value_reads : {N : Meanings} {E : Bound} {A : List Token} {a : Amount} → SpellsValue N E A a → (B : List Token) → front B ≢ Some Star → reading N E a_value (A ++ B) ≡ reading N E (sums a) B
+pub value_reads : {N : Meanings} {E : Bound} {A : List Token} {a : Amount} → SpellsValue N E A a → (B : List Token)
+    → front B ≢ Some Star → reading N E a_value (A ++ B) ≡ reading N E (sums a) B
 value_reads {N} {E} (atom {T} {a} h) B s = reads N E a_value (T ++ B) ∙ ap (λ o. after o (λ a R. reading N E (sums a) R)) (atom_reads h B s)
 value_reads {N} {E} (plus {L} {R} {a} {b} l r) B s =
     ap (reading N E a_value) (append_assoc L (Plus ∷ R) B)
@@ -134,18 +151,22 @@ ors_stop N E a [] h = reads N E (ors a) []
 ors_stop N E a (Or ∷ B) h = absurd (h refl)
 ors_stop N E a (c ∷ B) h = reads N E (ors a) (c ∷ B)
 
-compares : {N : Meanings} {E : Bound} {L R : List Token} {a b : Amount} (o : Op) → SpellsValue N E L a → SpellsValue N E R b → (B : List Token) → EndsValue B → comparing_by (reading N) E (L ++ (Relation o ∷ (R ++ B))) ≡ got (compare a o b) B
+compares : {N : Meanings} {E : Bound} {L R : List Token} {a b : Amount} (o : Op) → SpellsValue N E L a
+    → SpellsValue N E R b → (B : List Token) → EndsValue B
+    → comparing_by (reading N) E (L ++ (Relation o ∷ (R ++ B))) ≡ got (compare a o b) B
 compares {N} {E} {L} {R} {a} {b} o l r B n =
     ap (λ v. after v (λ a S. related_by (reading N) E a S))
     (value_reads l (Relation o ∷ (R ++ B)) (λ e. cc) ∙ sums_stop N E a (Relation o ∷ (R ++ B)) (λ e. cc))
     ∙ ap (λ v. after v (λ b S. got (compare a o b) S)) (value_reads r B n.1 ∙ sums_stop N E b B n.0)
 
-ranges : {N : Meanings} {E : Bound} {L : List Token} {a : Amount} (m n : ℕ) → SpellsValue N E L a → (B : List Token) → comparing_by (reading N) E (L ++ (In ∷ Number m ∷ Dash ∷ Number n ∷ B)) ≡ got (within a m n) B
+ranges : {N : Meanings} {E : Bound} {L : List Token} {a : Amount} (m n : ℕ) → SpellsValue N E L a → (B : List Token)
+    → comparing_by (reading N) E (L ++ (In ∷ Number m ∷ Dash ∷ Number n ∷ B)) ≡ got (within a m n) B
 ranges {N} {E} {L} {a} m n l B =
     ap (λ v. after v (λ a S. related_by (reading N) E a S))
     (value_reads l (In ∷ Number m ∷ Dash ∷ Number n ∷ B) (λ e. cc) ∙ sums_stop N E a (In ∷ Number m ∷ Dash ∷ Number n ∷ B) (λ e. cc))
 
-count_compares : {E : Bound} {c : Token} {R : List Token} {f : ASeat → Count} → SpellsCount E c R f → (N : Meanings) (X : List Token) → unit_by N (reading N) E (c ∷ X) ≡ comparing_by (reading N) E (c ∷ X)
+count_compares : {E : Bound} {c : Token} {R : List Token} {f : ASeat → Count} → SpellsCount E c R f
+    → (N : Meanings) (X : List Token) → unit_by N (reading N) E (c ∷ X) ≡ comparing_by (reading N) E (c ∷ X)
 count_compares measure N X = refl
 count_compares (measure_in i) N X = refl
 count_compares (len i) N X = refl
@@ -155,13 +176,15 @@ count_compares longest_suit N X = refl
 count_compares (second_suit w) N X = refl
 count_compares shortest_suit N X = refl
 
-atom_compares : {N : Meanings} {E : Bound} {L : List Token} {a : Amount} → SpellsAtom N E L a → (X : List Token) → unit_by N (reading N) E (L ++ X) ≡ comparing_by (reading N) E (L ++ X)
+atom_compares : {N : Meanings} {E : Bound} {L : List Token} {a : Amount} → SpellsAtom N E L a → (X : List Token)
+    → unit_by N (reading N) E (L ++ X) ≡ comparing_by (reading N) E (L ++ X)
 atom_compares a_number X = refl
 atom_compares {N} (a_count (count {Q} {R} k h)) X = count_compares k N (Open ∷ ((Q ++ R) ++ X))
 atom_compares (multiple w h) X = refl
 atom_compares {N} {E} (named_value {n} {T} i h) X = ap (λ m. condition_used_by m (reading N) E n (T ++ X)) i
 
-pub unit_compares : {N : Meanings} {E : Bound} {L : List Token} {a : Amount} → SpellsValue N E L a → (X : List Token) → unit_by N (reading N) E (L ++ X) ≡ comparing_by (reading N) E (L ++ X)
+pub unit_compares : {N : Meanings} {E : Bound} {L : List Token} {a : Amount} → SpellsValue N E L a → (X : List Token)
+    → unit_by N (reading N) E (L ++ X) ≡ comparing_by (reading N) E (L ++ X)
 unit_compares (atom h) X = atom_compares h X
 unit_compares (plus {L} {R} l r) X = rw (append_assoc L (Plus ∷ R) X) (unit_compares l (Plus ∷ (R ++ X)))
 
@@ -184,7 +207,8 @@ four_reads E Q q a b c d B h =
 
 -- a test of a hand, after its seat is read
 hand_reads :
-    {E : Bound} {c : Token} {R : List Token} {f : ASeat → Form} → SpellsHandTest E c R f → (N : Meanings) (Q : List Token) (q : ASeat) (B : List Token)
+    {E : Bound} {c : Token} {R : List Token} {f : ASeat → Form} → SpellsHandTest E c R f
+    → (N : Meanings) (Q : List Token) (q : ASeat) (B : List Token)
     → seat E (Q ++ (R ++ B)) ≡ got q (R ++ B) → unit_by N (reading N) E (c ∷ Open ∷ (Q ++ (R ++ B))) ≡ got (f q) B
 hand_reads is_balanced N Q q B h = rw h refl
 hand_reads {E} (has_shape a b c d) N Q q B h = ap (λ o. after o (λ p R. got (shaped p.0 p.1) R)) (four_reads E Q q a b c d B h)
@@ -195,14 +219,17 @@ class_reads : (E : Bound) (c : AClass) (S : List Token) → can_bind E c ≡ tru
 class_reads E c S b = ap (λ b. cond b (got c S) (stuck (Class c ∷ S))) b
 
 -- a quantifier leads to its class and its brackets
-quantifier_reads : (N : Meanings) (E : Bound) (k : AQuantifier) (c : AClass) (S : List Token) → can_bind E c ≡ true → unit_by N (reading N) E (Quantifier k ∷ Class c ∷ S) ≡ bracketed_by (reading N) E k c S
+quantifier_reads : (N : Meanings) (E : Bound) (k : AQuantifier) (c : AClass) (S : List Token) → can_bind E c ≡ true
+    → unit_by N (reading N) E (Quantifier k ∷ Class c ∷ S) ≡ bracketed_by (reading N) E k c S
 quantifier_reads N E k c S b =
-    ap (λ b. after (cond b (got k (Class c ∷ S)) (stuck (Quantifier k ∷ Class c ∷ S))) (λ k S. after (class E S) (λ c S. bracketed_by (reading N) E k c S))) (bindable_quantifies E c b)
+    ap (λ b. after (cond b (got k (Class c ∷ S)) (stuck (Quantifier k ∷ Class c ∷ S)))
+    (λ k S. after (class E S) (λ c S. bracketed_by (reading N) E k c S))) (bindable_quantifies E c b)
     ∙ ap (λ o. after o (λ c S. bracketed_by (reading N) E k c S)) (class_reads E c S b)
 
 module _ {N : Meanings} where
   mutual
-    pub spelled_unit : {E : Bound} {A : List Token} {t : Form} → SpellsUnit N E A t → (B : List Token) → EndsValue B → reading N E a_unit (A ++ B) ≡ got t B
+    pub spelled_unit : {E : Bound} {A : List Token} {t : Form} → SpellsUnit N E A t → (B : List Token) → EndsValue B
+        → reading N E a_unit (A ++ B) ≡ got t B
     spelled_unit {E} (not {T} {t} h) B n =
         reads N E a_unit (Not ∷ T ++ B) ∙ ap (λ o. after o (λ t R. got (negation t) R)) (spelled_unit h B n)
     spelled_unit {E} (brackets {T} {t} h) B n =
@@ -233,7 +260,8 @@ module _ {N : Meanings} where
         ∙ reads N E a_unit (c ∷ Open ∷ (Q ++ (R ++ B)))
         ∙ hand_reads k N Q q B (seat_reads h (R ++ B))
 
-    pub spelled_both : {E : Bound} {A : List Token} {t : Form} → SpellsBoth N E A t → (B : List Token) → EndsValue B → reading N E a_both (A ++ B) ≡ reading N E (ands t) B
+    pub spelled_both : {E : Bound} {A : List Token} {t : Form} → SpellsBoth N E A t → (B : List Token) → EndsValue B
+        → reading N E a_both (A ++ B) ≡ reading N E (ands t) B
     spelled_both {E} (unit {T} {t} h) B n = reads N E a_both (T ++ B) ∙ ap (λ o. after o (λ a R. reading N E (ands a) R)) (spelled_unit h B n)
     spelled_both {E} (and {L} {R} {a} {b} l r) B n =
         ap (reading N E a_both) (append_assoc L (And ∷ R) B)
@@ -241,7 +269,8 @@ module _ {N : Meanings} where
         ∙ reads N E (ands a) (And ∷ (R ++ B))
         ∙ ap (λ o. after o (λ b R. reading N E (ands (all_of a b)) R)) (spelled_unit r B n)
 
-    pub spelled_cond : {E : Bound} {A : List Token} {t : Form} → SpellsCond N E A t → (B : List Token) → front B ≢ Some And → EndsValue B → reading N E a_cond (A ++ B) ≡ reading N E (ors t) B
+    pub spelled_cond : {E : Bound} {A : List Token} {t : Form} → SpellsCond N E A t → (B : List Token)
+        → front B ≢ Some And → EndsValue B → reading N E a_cond (A ++ B) ≡ reading N E (ors t) B
     spelled_cond {E} (both {T} {t} h) B n m =
         reads N E a_cond (T ++ B) ∙ ap (λ o. after o (λ a R. reading N E (ors a) R)) (spelled_both h B m ∙ ands_stop N E t B n)
     spelled_cond {E} (or {L} {R} {a} {b} l r) B n m =
@@ -250,14 +279,17 @@ module _ {N : Meanings} where
         ∙ reads N E (ors a) (Or ∷ (R ++ B))
         ∙ ap (λ o. after o (λ b R. reading N E (ors (any_of a b)) R)) (spelled_both r B m ∙ ands_stop N E b B n)
 
-    spelled_each : {E : Bound} {c : AClass} {ss : List Choice} {T : List Token} {ts : List Form} → SpellsEach N E c ss T ts → (B : List Token) → ReadsEach (reading N) E c (T ++ Close ∷ B) (Close ∷ B) ss ts
+    spelled_each : {E : Bound} {c : AClass} {ss : List Choice} {T : List Token} {ts : List Form}
+        → SpellsEach N E c ss T ts → (B : List Token) → ReadsEach (reading N) E c (T ++ Close ∷ B) (Close ∷ B) ss ts
     spelled_each none B = tt
     spelled_each {E} {c} (one_more {s} {t} h hs) B =
         (spelled_cond h (Close ∷ B) (λ e. cc) (λ e. cc, λ e. cc) ∙ reads N (bind E c s) (ors t) (Close ∷ B), spelled_each hs B)
 
 -- a condition before a bracket or the end, and a value
-pub cond_read : {N : Meanings} {E : Bound} {T : List Token} {t : Form} → SpellsCond N E T t → (B : List Token) → front B ≢ Some Or → front B ≢ Some And → EndsValue B → reading N E a_cond (T ++ B) ≡ got t B
+pub cond_read : {N : Meanings} {E : Bound} {T : List Token} {t : Form} → SpellsCond N E T t → (B : List Token)
+    → front B ≢ Some Or → front B ≢ Some And → EndsValue B → reading N E a_cond (T ++ B) ≡ got t B
 cond_read {N} {E} {t} h B o n m = spelled_cond h B n m ∙ ors_stop N E t B o
 
-pub value_read : {N : Meanings} {E : Bound} {T : List Token} {a : Amount} → SpellsValue N E T a → (B : List Token) → EndsValue B → reading N E a_value (T ++ B) ≡ got a B
+pub value_read : {N : Meanings} {E : Bound} {T : List Token} {a : Amount} → SpellsValue N E T a → (B : List Token)
+    → EndsValue B → reading N E a_value (T ++ B) ≡ got a B
 value_read {N} {E} {a} h B n = value_reads h B n.1 ∙ sums_stop N E a B n.0

@@ -48,7 +48,8 @@ IsSymbolOf (Some x) s = (token_of symbols (take x.1 s) ≡ Some x.0) × (0 < x.1
 single : (t : Token) (d c : ℕ) (s : List ℕ) → token_of symbols (d ∷ []) ≡ Some t → eqb c d ≡ true → IsSymbolOf (Some (t, 1)) (c ∷ s)
 single t d c s e h = subst (λ c. IsSymbolOf (Some (t, 1)) (c ∷ s)) (sym (eqb-true c d h)) (e, omega arith, omega arith)
 
-double : (t : Token) (d c : ℕ) (s : List ℕ) → token_of symbols (d ∷ 61 ∷ []) ≡ Some t → eqb c d ≡ true → begins_with 61 s ≡ true → IsSymbolOf (Some (t, 2)) (c ∷ s)
+double : (t : Token) (d c : ℕ) (s : List ℕ) → token_of symbols (d ∷ 61 ∷ []) ≡ Some t → eqb c d ≡ true
+    → begins_with 61 s ≡ true → IsSymbolOf (Some (t, 2)) (c ∷ s)
 double t d c s e h g =
     let m = goes_on 61 s g in
     subst (λ c. IsSymbolOf (Some (t, 2)) (c ∷ s)) (sym (eqb-true c d h))
@@ -65,8 +66,10 @@ symbol_is c s =
     pick P (eqb c 42) _ _ (single Star 42 c s refl) (λ _.
     pick P (eqb c 61) _ _ (λ h. pick P (begins_with 61 s) _ _ (double (Relation Equal) 61 c s refl h) (λ _. tt)) (λ _.
     pick P (eqb c 33) _ _ (λ h. pick P (begins_with 61 s) _ _ (double (Relation NotEqual) 33 c s refl h) (λ _. tt)) (λ _.
-    pick P (eqb c 60) _ _ (λ h. pick P (begins_with 61 s) _ _ (double (Relation AtMost) 60 c s refl h) (λ _. single (Relation Less) 60 c s refl h)) (λ _.
-    pick P (eqb c 62) _ _ (λ h. pick P (begins_with 61 s) _ _ (double (Relation AtLeast) 62 c s refl h) (λ _. single (Relation More) 62 c s refl h)) (λ _. tt))))))))))
+    pick P (eqb c 60) _ _ (λ h. pick P (begins_with 61 s) _ _ (double (Relation AtMost) 60 c s refl h)
+    (λ _. single (Relation Less) 60 c s refl h)) (λ _.
+    pick P (eqb c 62) _ _ (λ h. pick P (begins_with 61 s) _ _ (double (Relation AtLeast) 62 c s refl h)
+    (λ _. single (Relation More) 62 c s refl h)) (λ _. tt))))))))))
   where
     P : Option (Token × ℕ) → Type 0
     P o = IsSymbolOf o (c ∷ s)

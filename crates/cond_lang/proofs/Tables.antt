@@ -1,5 +1,6 @@
 -- Tables of words and symbols: what is looked up is an entry, and each entry is found.
-use Rattle.std.proofs.Common.{◌≡◌, ℕ, zero, suc, Bool, true, false, not, List, [], ◌∷◌, Option, Some, None, ◌&&◌, refl, sym, ap, ◌∙◌, subst, arith, if◌then◌else◌}
+use Rattle.std.proofs.Common.{◌≡◌, ℕ, zero, suc, Bool, true, false, not, List, [], ◌∷◌, Option, Some, None, ◌&&◌}
+use Rattle.std.proofs.Common.{refl, sym, ap, ◌∙◌, subst, arith, if◌then◌else◌}
 use Rattle.std.specs.Prelude.{Contains}
 use Rattle.std.proofs.lemmas.Bool.{false≢true}
 use Rattle.std.proofs.lemmas.Slice.Eq.{bytes_eq-Decides}
@@ -65,7 +66,8 @@ pub entry_of : (table : Table) (p : List ℕ) (t : Token) → token_of table p �
 entry_of [] p t = λ e. absurd (cc)
 entry_of (x ∷ table) p t =
     pick (λ o. o ≡ Some t → Contains (x ∷ table) (p, t)) (bytes_eq p x.0) (Some x.1) (token_of table p)
-    (λ b e. let same : p ≡ x.0 = (bytes_eq-Decides p x.0).0 b in let this : x.1 ≡ t = cc in (0, omega arith, ap (λ q. (q, x.1)) (sym same) ∙ ap (λ y. (p, y)) this))
+    (λ b e. let same : p ≡ x.0 = (bytes_eq-Decides p x.0).0 b in let this : x.1 ≡ t = cc in
+    (0, omega arith, ap (λ q. (q, x.1)) (sym same) ∙ ap (λ y. (p, y)) this))
     (λ b e. let h = entry_of table p t e in (suc h.0, omega (arith, h.1), h.2))
 
 -- what holds of each entry

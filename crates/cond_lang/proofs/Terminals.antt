@@ -1,5 +1,6 @@
 -- The readers that don't lead back to a condition.
-use Rattle.std.proofs.Common.{◌≡◌, ℕ, Bool, true, false, cond, List, [], ◌∷◌, ◌++◌, Option, Some, None, slice_get, refl, sym, ap, ◌∙◌, subst, append_assoc, append-nil}
+use Rattle.std.proofs.Common.{◌≡◌, ℕ, Bool, true, false, cond, List, [], ◌∷◌, ◌++◌, Option, Some, None}
+use Rattle.std.proofs.Common.{refl, sym, ap, subst, append_assoc, append-nil}
 use Rattle.cards.specs.declared.honours.Honours.{Honours}
 use Rattle.cards.specs.declared.hand.Measure.{Measure as AMeasure}
 use Rattle.cards.specs.declared.seat.Seat.{Seat as ASeat}
@@ -8,21 +9,29 @@ use Rattle.cards.specs.declared.suit.Suit.{Suit as ASuit}
 use Rattle.cards.specs.declared.suit.Suit.TheVariants.{Spades}
 use Rattle.cond_lang.specs.declared.classes.Bound.{Bound}
 use Rattle.cond_lang.specs.declared.classes.Class.{Class as AClass}
-use Rattle.cond_lang.specs.declared.classes.Choice.{Choice}
 use Rattle.cond_lang.specs.declared.classes.Neighbour.{Neighbour as ANeighbour}
-use Rattle.cond_lang.specs.declared.classes.Params.{Params}
-use Rattle.cond_lang.specs.declared.classes.Params.TheVariants.{Plain, OfSeat, OfSuit, OfBoth}
 use Rattle.conditions.specs.declared.tree.Count.{Count}
-use Rattle.conditions.specs.declared.tree.Item.{Item}
 use Rattle.conditions.specs.declared.tree.Item.TheVariants.{Length, Any}
 use Rattle.conditions.specs.declared.tree.Op.TheVariants.{Equal}
 use Rattle.cond_lang.specs.declared.scanner.Token.{Token}
-use Rattle.cond_lang.specs.declared.scanner.Token.TheVariants.{Star, Measure, Cards, Len, Longest, Second, Shortest, X, Seat, Suit, Class, Neighbour, Ranks, Number, Open, Close, Comma, Dash, Relation, Name}
-use Rattle.conditions.specs.Form.{number, counted, times, measured, suit_measured, cards_held, suit_cards_held, suit_length, longest, second, shortest}
-use Rattle.cond_lang.specs.Classes.{bound_to, seat_bound_to, can_bind, Names, by_suit, by_class, choice, seat_beside}
-use Rattle.cond_lang.specs.Grammar.{Meaning, Meanings, condition, value, SpellsArgs, no_args, seat_arg, suit_arg, both_args, named_value, SpellsCounted, a_count, multiple, SpellsSeat, by_word, by_bound, beside, SpellsAtom, a_number, count, measure, measure_in, len, cards, cards_in, longest_suit, second_suit, shortest_suit, item_token, four}
-use Rattle.cond_lang.specs.internal.Reading.{Outcome, got, stuck, Reader, after, opened, closed, comma, dash, seat, class_seat, suit, class_suit, class, digits, ranks, item, relation, closing, comma_suit_close, rest_of_measure, ranks_close, comma_ranks_close, suit_and_ranks, rest_of_cards, count_of, count_alone, rest_of_number, number_or_count, open_seat, seat_in_brackets, seat_and_suit, open_seat_comma, range, suit_in_brackets, args, value_used, atom_of, items, seat_and_items}
-use Rattle.cond_lang.proofs.Sequences.{Reads, HasSome, reads_after, reads_as, reads_token, reads_like, like_at, like_at_end, gets_token, gets_at, gets_at_end, stops_at, stops_at_end}
+use Rattle.cond_lang.specs.declared.scanner.Token.TheVariants.{Star, Measure, Cards, Len, Longest, Second, Shortest}
+use Rattle.cond_lang.specs.declared.scanner.Token.TheVariants.{X, Seat, Suit, Class, Neighbour, Ranks, Number, Open}
+use Rattle.cond_lang.specs.declared.scanner.Token.TheVariants.{Close, Comma, Dash, Relation}
+use Rattle.conditions.specs.Form.{number, counted, times, measured, suit_measured, cards_held, suit_cards_held}
+use Rattle.conditions.specs.Form.{suit_length, longest, second, shortest}
+use Rattle.cond_lang.specs.Classes.{bound_to, seat_bound_to, can_bind, Names, by_suit, by_class, seat_beside}
+use Rattle.cond_lang.specs.Grammar.{Meanings}
+use Rattle.cond_lang.specs.Grammar.{SpellsCounted, a_count, multiple, SpellsSeat, by_word}
+use Rattle.cond_lang.specs.Grammar.{by_bound, beside, SpellsAtom, a_number, count, measure, measure_in, len, cards}
+use Rattle.cond_lang.specs.Grammar.{cards_in, longest_suit, second_suit, shortest_suit, item_token}
+use Rattle.cond_lang.specs.internal.Reading.{Outcome, got, stuck, Reader, after, opened, closed, comma, dash, seat}
+use Rattle.cond_lang.specs.internal.Reading.{class_seat, suit, class_suit, class, digits, ranks, item, relation}
+use Rattle.cond_lang.specs.internal.Reading.{closing, comma_suit_close, rest_of_measure, ranks_close}
+use Rattle.cond_lang.specs.internal.Reading.{comma_ranks_close, suit_and_ranks, rest_of_cards, count_of, count_alone}
+use Rattle.cond_lang.specs.internal.Reading.{rest_of_number, number_or_count, open_seat, seat_in_brackets}
+use Rattle.cond_lang.specs.internal.Reading.{seat_and_suit, open_seat_comma, range}
+use Rattle.cond_lang.proofs.Sequences.{Reads, HasSome, reads_after, reads_as, reads_token, reads_like, like_at}
+use Rattle.cond_lang.proofs.Sequences.{like_at_end, gets_token, gets_at, gets_at_end, stops_at, stops_at_end}
 
 -- nothing more
 pub gets : {A : Type 0} (N : List Token → A → Type 0) (x : A) (S : List Token) → N [] x → Reads N (got x) S (got x S)
@@ -65,7 +74,8 @@ IsNamed E P s = (c : Token) × Names E c s × (P ≡ c ∷ [])
 some_named : (E : Bound) → HasSome (IsNamed E)
 some_named E = (Suit Spades ∷ [], Spades, (Suit Spades, by_suit, refl))
 
-reads_class_suit : (E : Bound) (c : AClass) (S : List Token) (o : Option ASuit) → bound_to E c ≡ o → Reads (IsNamed E) (suit E) (Class c ∷ S) (class_suit o c S)
+reads_class_suit : (E : Bound) (c : AClass) (S : List Token) (o : Option ASuit) → bound_to E c ≡ o
+    → Reads (IsNamed E) (suit E) (Class c ∷ S) (class_suit o c S)
 reads_class_suit E c S None e = stops_at _ (Class c) (suit E) S (some_named E) (λ X. ap (λ o. class_suit o c X) e)
 reads_class_suit E c S (Some s) e = gets_token _ (Class c) (suit E) S s (Class c, by_class e, refl) (λ X. ap (λ o. class_suit o c X) e)
 
@@ -76,7 +86,7 @@ reads_suit E (Class c ∷ S) = reads_class_suit E c S (bound_to E c) refl
 reads_suit E (c ∷ S) = stops_at _ c (suit E) S (some_named E) (λ X. refl)
 
 -- a token that names a suit, and then a reader
-reads_named :
+pub reads_named :
     {B : Type 0} (E : Bound) (K : List Token → B → Type 0) (f : ASuit → Reader B) (S : List Token)
     → ((s : ASuit) → HasSome (λ Q y. (c : Token) → Names E c s → K (c ∷ Q) y))
     → ((s : ASuit) (R : List Token) → Reads (λ Q y. (c : Token) → Names E c s → K (c ∷ Q) y) (f s) R (f s R))
@@ -89,7 +99,8 @@ reads_named E K f S some k =
 abbrev pub IsBindable : Bound → List Token → AClass → Type 0
 IsBindable E P c = (P ≡ Class c ∷ []) × (can_bind E c ≡ true)
 
-reads_this_class : (E : Bound) → HasSome (IsBindable E) → (c : AClass) (S : List Token) (b : Bool) → can_bind E c ≡ b → Reads (IsBindable E) (class E) (Class c ∷ S) (cond b (got c S) (stuck (Class c ∷ S)))
+reads_this_class : (E : Bound) → HasSome (IsBindable E) → (c : AClass) (S : List Token) (b : Bool) → can_bind E c ≡ b
+    → Reads (IsBindable E) (class E) (Class c ∷ S) (cond b (got c S) (stuck (Class c ∷ S)))
 reads_this_class E some c S true e = gets_token _ (Class c) (class E) S c (refl, e) (λ X. ap (λ b. cond b (got c X) (stuck (Class c ∷ X))) e)
 reads_this_class E some c S false e = stops_at _ (Class c) (class E) S some (λ X. ap (λ b. cond b (got c X) (stuck (Class c ∷ X))) e)
 
@@ -131,7 +142,8 @@ reads_closing K x S m =
 some_seat : (E : Bound) → HasSome (SpellsSeat E)
 some_seat E = (Seat North ∷ [], North, by_word)
 
-reads_class_seat : (E : Bound) (c : AClass) (S : List Token) (o : Option ASeat) → seat_bound_to E c ≡ o → Reads (SpellsSeat E) (seat E) (Class c ∷ S) (class_seat o c S)
+reads_class_seat : (E : Bound) (c : AClass) (S : List Token) (o : Option ASeat) → seat_bound_to E c ≡ o
+    → Reads (SpellsSeat E) (seat E) (Class c ∷ S) (class_seat o c S)
 reads_class_seat E c S None e = stops_at _ (Class c) (seat E) S (some_seat E) (λ X. ap (λ o. class_seat o c X) e)
 reads_class_seat E c S (Some q) e = gets_token _ (Class c) (seat E) S q (by_bound tt e) (λ X. ap (λ o. class_seat o c X) e)
 
@@ -139,7 +151,8 @@ reads_class_seat E c S (Some q) e = gets_token _ (Class c) (seat E) S q (by_boun
 abbrev IsBeside : Bound → ANeighbour → List Token → ASeat → Type 0
 IsBeside E n P r = SpellsSeat E (Neighbour n ∷ Open ∷ P) r
 
-joined_beside : (E : Bound) (n : ANeighbour) (P Q : List Token) (q r : ASeat) → SpellsSeat E P q → (Q ≡ Close ∷ []) × (r ≡ seat_beside n q) → IsBeside E n (P ++ Q) r
+joined_beside : (E : Bound) (n : ANeighbour) (P Q : List Token) (q r : ASeat) → SpellsSeat E P q
+    → (Q ≡ Close ∷ []) × (r ≡ seat_beside n q) → IsBeside E n (P ++ Q) r
 joined_beside E n P Q q r h m = rw (m.0, m.1) (beside tt h)
 
 -- what stands after a neighbour's word, if it isn't a bracket
@@ -159,10 +172,14 @@ reads_seat E [] = stops_at_end _ (seat E) (some_seat E) refl
 reads_seat E (Seat q ∷ S) = gets_token _ (Seat q) (seat E) S q by_word (λ X. refl)
 reads_seat E (Class c ∷ S) = reads_class_seat E c S (seat_bound_to E c) refl
 reads_seat E (Neighbour n ∷ Open ∷ S) =
-    reads_token (λ P. SpellsSeat E (Neighbour n ∷ P)) (SpellsSeat E) (Neighbour n) (behind_neighbour E n) (seat E) (Open ∷ S) _ (λ P x m. m) (λ X. refl)
-    (reads_token (IsBeside E n) _ Open (λ S. after (seat E S) (λ q R. closing (seat_beside n q) R)) (behind_neighbour E n) S _ (λ P x m. m) (λ X. refl)
-    (reads_after (SpellsSeat E) (λ q Q r. (Q ≡ Close ∷ []) × (r ≡ seat_beside n q)) (IsBeside E n) (seat E) (λ q R. closing (seat_beside n q) R) S (seat E S)
-    (joined_beside E n) (λ q. (Close ∷ [], seat_beside n q, (refl, refl))) (reads_seat E S) (λ q R. reads_closing _ (seat_beside n q) R (refl, refl))))
+    reads_token (λ P. SpellsSeat E (Neighbour n ∷ P)) (SpellsSeat E) (Neighbour n) (behind_neighbour E n) (seat E)
+    (Open ∷ S) _ (λ P x m. m) (λ X. refl)
+    (reads_token (IsBeside E n) _ Open (λ S. after (seat E S) (λ q R. closing (seat_beside n q) R))
+    (behind_neighbour E n) S _ (λ P x m. m) (λ X. refl)
+    (reads_after (SpellsSeat E) (λ q Q r. (Q ≡ Close ∷ []) × (r ≡ seat_beside n q)) (IsBeside E n) (seat E)
+    (λ q R. closing (seat_beside n q) R) S (seat E S)
+    (joined_beside E n) (λ q. (Close ∷ [], seat_beside n q, (refl, refl))) (reads_seat E S)
+    (λ q R. reads_closing _ (seat_beside n q) R (refl, refl))))
 reads_seat E (Neighbour n ∷ []) = reads_unopened E n [] (stops_at_end _ (behind_neighbour E n) (some_beside E n) refl)
 reads_seat E (Neighbour n ∷ c ∷ S) = reads_unopened E n (c ∷ S) (stops_at _ c (behind_neighbour E n) S (some_beside E n) (λ X. refl))
 reads_seat E (c ∷ S) = stops_at _ c (seat E) S (some_seat E) (λ X. refl)
@@ -177,7 +194,8 @@ IsOpenSeat E P q = (L : List Token) × SpellsSeat E L q × (P ≡ Open ∷ L)
 
 reads_open_seat : (E : Bound) (S : List Token) → Reads (IsOpenSeat E) (open_seat E) S (open_seat E S)
 reads_open_seat E S =
-    reads_then (λ _. Open ∷ []) (IsOpenSeat E) opened (λ _ R. seat E R) S (opened S) (λ _. (Seat North ∷ [], North, (Seat North ∷ [], by_word, refl))) (reads_opened S)
+    reads_then (λ _. Open ∷ []) (IsOpenSeat E) opened (λ _ R. seat E R) S (opened S)
+    (λ _. (Seat North ∷ [], North, (Seat North ∷ [], by_word, refl))) (reads_opened S)
     (λ _ R. reads_as (SpellsSeat E) _ (seat E) (seat E) R (seat E R) (λ P q h. (P, h, refl)) (λ X. refl) (reads_seat E R))
 
 -- `( seat`, and then a reader
@@ -194,13 +212,15 @@ reads_behind_seat E K f S some k =
 abbrev Counts : Bound → Token → ASeat → List Token → Count → Type 0
 Counts E c q = BehindSeat E (λ Q. SpellsCounted E (c ∷ Q)) q
 
-pub reads_rest_of_measure : (E : Bound) (m : AMeasure) (q : ASeat) (S : List Token) → Reads (Counts E (Measure m) q) (rest_of_measure E m q) S (rest_of_measure E m q S)
+pub reads_rest_of_measure : (E : Bound) (m : AMeasure) (q : ASeat) (S : List Token)
+    → Reads (Counts E (Measure m) q) (rest_of_measure E m q) S (rest_of_measure E m q S)
 reads_rest_of_measure E m q [] = stops_at_end _ (rest_of_measure E m q) (Close ∷ [], measured m q, λ L h. count measure h) refl
 reads_rest_of_measure E m q (Close ∷ S) = gets_token _ Close (rest_of_measure E m q) S (measured m q) (λ L h. count measure h) (λ X. refl)
 reads_rest_of_measure E m q (Comma ∷ S) =
     reads_token _ _ Comma (λ S. after (suit E S) (λ s R. closing (suit_measured m q s) R)) (rest_of_measure E m q) S _ (λ P x h. h) (λ X. refl)
     (reads_named E (λ Q. Counts E (Measure m) q (Comma ∷ Q)) (λ s R. closing (suit_measured m q s) R) S
-    (λ s. (Close ∷ [], suit_measured m q s, λ c n L h. count (measure_in n) h)) (λ s R. reads_closing _ (suit_measured m q s) R (λ c n L h. count (measure_in n) h)))
+    (λ s. (Close ∷ [], suit_measured m q s, λ c n L h. count (measure_in n) h))
+    (λ s R. reads_closing _ (suit_measured m q s) R (λ c n L h. count (measure_in n) h)))
 reads_rest_of_measure E m q (c ∷ S) = stops_at _ c (rest_of_measure E m q) S (Close ∷ [], measured m q, λ L h. count measure h) (λ X. refl)
 
 -- , suit )
@@ -227,7 +247,8 @@ pub reads_seat_and_suit : (E : Bound) (S : List Token) → Reads (AreSeatAndSuit
 reads_seat_and_suit E S =
     reads_behind_seat E (AreSeatAndSuit E) (λ q S. after (comma_suit_close E S) (λ s R. got (q, s) R)) S
     (λ q. (Comma ∷ Suit Spades ∷ Close ∷ [], (q, Spades), λ L h. (L, h, Suit Spades, by_suit, refl)))
-    (λ q R. reads_after (IsNamedLast E) (λ s Q p. (Q ≡ []) × (p ≡ (q, s))) (BehindSeat E (AreSeatAndSuit E) q) (comma_suit_close E) (λ s R. got (q, s) R) R (comma_suit_close E R)
+    (λ q R. reads_after (IsNamedLast E) (λ s Q p. (Q ≡ []) × (p ≡ (q, s))) (BehindSeat E (AreSeatAndSuit E) q)
+    (comma_suit_close E) (λ s R. got (q, s) R) R (comma_suit_close E R)
     (named_pair E q) (λ s. ([], (q, s), (refl, refl))) (reads_comma_suit_close E R) (λ s R. gets _ (q, s) R (refl, refl)))
 
 -- ( seat and this token
@@ -253,7 +274,8 @@ pub reads_comma_ranks_close : (S : List Token) → Reads (λ P h. P ≡ Comma �
 reads_comma_ranks_close S =
     reads_then (λ _. Comma ∷ []) (λ P h. P ≡ Comma ∷ Ranks h ∷ Close ∷ []) comma (λ _ S. ranks_close S) S (comma S)
     (λ _. (Ranks some_ranks ∷ Close ∷ [], some_ranks, refl)) (reads_comma S)
-    (λ _ R. reads_as (λ P h. P ≡ Ranks h ∷ Close ∷ []) _ ranks_close ranks_close R (ranks_close R) (λ P h e. ap (λ L. Comma ∷ L) e) (λ X. refl) (reads_ranks_close R))
+    (λ _ R. reads_as (λ P h. P ≡ Ranks h ∷ Close ∷ []) _ ranks_close ranks_close R (ranks_close R)
+    (λ P h e. ap (λ L. Comma ∷ L) e) (λ X. refl) (reads_ranks_close R))
 
 -- ranks after `cards ( seat ,`
 ranks_of_cards : ASeat → Reader Count
@@ -273,15 +295,23 @@ pub reads_suit_and_ranks : (E : Bound) (q : ASeat) (S : List Token) → Reads (C
 reads_suit_and_ranks E q S =
     reads_named E (CountsCards E q) (λ s S. after (comma_ranks_close S) (λ h R. got (suit_cards_held q s h) R)) S
     (λ s. (Comma ∷ Ranks some_ranks ∷ Close ∷ [], suit_cards_held q s some_ranks, λ c n L l. count (cards_in n) l))
-    (λ s R. reads_then (λ h. Comma ∷ Ranks h ∷ Close ∷ []) (λ Q y. (c : Token) → Names E c s → CountsCards E q (c ∷ Q) y) comma_ranks_close (λ h R. got (suit_cards_held q s h) R) R (comma_ranks_close R)
-    (λ h. ([], suit_cards_held q s h, λ c n L l. count (cards_in n) l)) (reads_comma_ranks_close R) (λ h R. gets _ (suit_cards_held q s h) R (λ c n L l. count (cards_in n) l)))
+    (λ s R. reads_then (λ h. Comma ∷ Ranks h ∷ Close ∷ [])
+    (λ Q y. (c : Token) → Names E c s → CountsCards E q (c ∷ Q) y) comma_ranks_close
+    (λ h R. got (suit_cards_held q s h) R) R (comma_ranks_close R)
+    (λ h. ([], suit_cards_held q s h, λ c n L l. count (cards_in n) l)) (reads_comma_ranks_close R)
+    (λ h R. gets _ (suit_cards_held q s h) R (λ c n L l. count (cards_in n) l)))
 
 pub reads_rest_of_cards : (E : Bound) (q : ASeat) (S : List Token) → Reads (CountsCards E q) (rest_of_cards E q) S (rest_of_cards E q S)
 unfolding ranks_of_cards
-reads_rest_of_cards E q [] = reads_like _ (ranks_of_cards q) (rest_of_cards E q) [] _ (like_at_end (ranks_of_cards q) (rest_of_cards E q) refl) (reads_ranks_of_cards E q [])
-reads_rest_of_cards E q (Suit s ∷ S) = reads_like _ (suit_and_ranks E q) (rest_of_cards E q) (Suit s ∷ S) _ (like_at (suit_and_ranks E q) (rest_of_cards E q) (Suit s) S (λ X. refl)) (reads_suit_and_ranks E q (Suit s ∷ S))
-reads_rest_of_cards E q (Class c ∷ S) = reads_like _ (suit_and_ranks E q) (rest_of_cards E q) (Class c ∷ S) _ (like_at (suit_and_ranks E q) (rest_of_cards E q) (Class c) S (λ X. refl)) (reads_suit_and_ranks E q (Class c ∷ S))
-reads_rest_of_cards E q (c ∷ S) = reads_like _ (ranks_of_cards q) (rest_of_cards E q) (c ∷ S) _ (like_at (ranks_of_cards q) (rest_of_cards E q) c S (λ X. refl)) (reads_ranks_of_cards E q (c ∷ S))
+reads_rest_of_cards E q [] = reads_like _ (ranks_of_cards q) (rest_of_cards E q) [] _
+    (like_at_end (ranks_of_cards q) (rest_of_cards E q) refl) (reads_ranks_of_cards E q [])
+reads_rest_of_cards E q (Suit s ∷ S) = reads_like _ (suit_and_ranks E q) (rest_of_cards E q) (Suit s ∷ S) _
+    (like_at (suit_and_ranks E q) (rest_of_cards E q) (Suit s) S (λ X. refl)) (reads_suit_and_ranks E q (Suit s ∷ S))
+reads_rest_of_cards E q (Class c ∷ S) = reads_like _ (suit_and_ranks E q) (rest_of_cards E q) (Class c ∷ S) _
+    (like_at (suit_and_ranks E q) (rest_of_cards E q) (Class c) S (λ X. refl))
+    (reads_suit_and_ranks E q (Class c ∷ S))
+reads_rest_of_cards E q (c ∷ S) = reads_like _ (ranks_of_cards q) (rest_of_cards E q) (c ∷ S) _
+    (like_at (ranks_of_cards q) (rest_of_cards E q) c S (λ X. refl)) (reads_ranks_of_cards E q (c ∷ S))
 
 pub reads_range : (S : List Token) → Reads (λ P p. P ≡ Number p.0 ∷ Dash ∷ Number p.1 ∷ []) range S (range S)
 reads_range S =
@@ -295,26 +325,32 @@ reads_range S =
 some_count : (E : Bound) → HasSome (SpellsCounted E)
 some_count E = (Longest ∷ Open ∷ Seat North ∷ Close ∷ [], longest North, count {Q = Seat North ∷ []} longest_suit by_word)
 
-joined_len : (E : Bound) (P Q : List Token) (p : ASeat × ASuit) (a : Count) → AreSeatAndSuit E P p → (Q ≡ []) × (a ≡ suit_length p.0 p.1) → SpellsCounted E (Len ∷ P ++ Q) a
+joined_len : (E : Bound) (P Q : List Token) (p : ASeat × ASuit) (a : Count) → AreSeatAndSuit E P p
+    → (Q ≡ []) × (a ≡ suit_length p.0 p.1) → SpellsCounted E (Len ∷ P ++ Q) a
 joined_len E P Q p a h m = rw (m.0, m.1, append-nil P, h.4) (count (len h.3) h.1)
 
 -- tokens after `cards ( seat ,`
-joined_cards : (E : Bound) (P Q : List Token) (q : ASeat) (a : Count) → IsSeatAnd Comma E P q → CountsCards E q Q a → SpellsCounted E (Cards ∷ P ++ Q) a
+joined_cards : (E : Bound) (P Q : List Token) (q : ASeat) (a : Count) → IsSeatAnd Comma E P q → CountsCards E q Q a
+    → SpellsCounted E (Cards ∷ P ++ Q) a
 joined_cards E P Q q a h m =
     subst (λ P. SpellsCounted E (Cards ∷ P ++ Q) a) (sym h.2)
     (subst (λ L. SpellsCounted E (Cards ∷ Open ∷ L) a) (sym (append_assoc h.0 (Comma ∷ []) Q)) (m h.0 h.1))
 
 -- a word that counts by `( seat )`
 joined_seat :
-    (E : Bound) (c : Token) (f : ASeat → Count) → ((L : List Token) (q : ASeat) → SpellsSeat E L q → SpellsCounted E (c ∷ Open ∷ L ++ Close ∷ []) (f q))
+    (E : Bound) (c : Token) (f : ASeat → Count) → ((L : List Token) (q : ASeat) → SpellsSeat E L q
+    → SpellsCounted E (c ∷ Open ∷ L ++ Close ∷ []) (f q))
     → (P Q : List Token) (q : ASeat) (a : Count) → IsSeatAnd Close E P q → (Q ≡ []) × (a ≡ f q) → SpellsCounted E (c ∷ P ++ Q) a
 joined_seat E c f of P Q q a h m = rw (m.0, m.1, append-nil P, h.2) (of h.0 q h.1)
 
 reads_count :
-    (E : Bound) (c : Token) (f : ASeat → Count) → ((L : List Token) (q : ASeat) → SpellsSeat E L q → SpellsCounted E (c ∷ Open ∷ L ++ Close ∷ []) (f q))
-    → (S : List Token) → Reads (λ P. SpellsCounted E (c ∷ P)) (λ S. after (seat_in_brackets E S) (λ q R. got (f q) R)) S (after (seat_in_brackets E S) (λ q R. got (f q) R))
+    (E : Bound) (c : Token) (f : ASeat → Count) → ((L : List Token) (q : ASeat) → SpellsSeat E L q
+    → SpellsCounted E (c ∷ Open ∷ L ++ Close ∷ []) (f q))
+    → (S : List Token) → Reads (λ P. SpellsCounted E (c ∷ P)) (λ S. after (seat_in_brackets E S) (λ q R. got (f q) R))
+    S (after (seat_in_brackets E S) (λ q R. got (f q) R))
 reads_count E c f of S =
-    reads_after (IsSeatAnd Close E) (λ q Q a. (Q ≡ []) × (a ≡ f q)) (λ P. SpellsCounted E (c ∷ P)) (seat_in_brackets E) (λ q R. got (f q) R) S (seat_in_brackets E S)
+    reads_after (IsSeatAnd Close E) (λ q Q a. (Q ≡ []) × (a ≡ f q)) (λ P. SpellsCounted E (c ∷ P))
+    (seat_in_brackets E) (λ q R. got (f q) R) S (seat_in_brackets E S)
     (joined_seat E c f of) (λ q. ([], f q, (refl, refl))) (reads_seat_in_brackets E S) (λ q R. gets _ (f q) R (refl, refl))
 
 pub reads_count_of : (E : Bound) (S : List Token) → Reads (SpellsCounted E) (count_of E) S (count_of E S)
@@ -326,12 +362,15 @@ reads_count_of E (Measure m ∷ S) =
     (λ q. (Close ∷ [], measured m q, λ L h. count measure h)) (reads_rest_of_measure E m))
 reads_count_of E (Len ∷ S) =
     reads_token _ _ Len (λ S. after (seat_and_suit E S) (λ p R. got (suit_length p.0 p.1) R)) (count_of E) S _ (λ P x m. m) (λ X. refl)
-    (reads_after (AreSeatAndSuit E) (λ p Q a. (Q ≡ []) × (a ≡ suit_length p.0 p.1)) (λ P. SpellsCounted E (Len ∷ P)) (seat_and_suit E) (λ p R. got (suit_length p.0 p.1) R) S (seat_and_suit E S)
+    (reads_after (AreSeatAndSuit E) (λ p Q a. (Q ≡ []) × (a ≡ suit_length p.0 p.1)) (λ P. SpellsCounted E (Len ∷ P))
+    (seat_and_suit E) (λ p R. got (suit_length p.0 p.1) R) S (seat_and_suit E S)
     (joined_len E) (λ p. ([], suit_length p.0 p.1, (refl, refl))) (reads_seat_and_suit E S) (λ p R. gets _ (suit_length p.0 p.1) R (refl, refl)))
 reads_count_of E (Cards ∷ S) =
     reads_token _ _ Cards (λ S. after (open_seat_comma E S) (λ q R. rest_of_cards E q R)) (count_of E) S _ (λ P x m. m) (λ X. refl)
-    (reads_after (IsSeatAnd Comma E) (CountsCards E) (λ Q. SpellsCounted E (Cards ∷ Q)) (open_seat_comma E) (λ q R. rest_of_cards E q R) S (open_seat_comma E S)
-    (joined_cards E) (λ q. (Ranks some_ranks ∷ Close ∷ [], cards_held q some_ranks, λ L h. count cards h)) (reads_open_seat_comma E S) (reads_rest_of_cards E))
+    (reads_after (IsSeatAnd Comma E) (CountsCards E) (λ Q. SpellsCounted E (Cards ∷ Q)) (open_seat_comma E)
+    (λ q R. rest_of_cards E q R) S (open_seat_comma E S)
+    (joined_cards E) (λ q. (Ranks some_ranks ∷ Close ∷ [], cards_held q some_ranks, λ L h. count cards h))
+    (reads_open_seat_comma E S) (reads_rest_of_cards E))
 reads_count_of E (Longest ∷ S) =
     reads_token _ _ Longest (λ S. after (seat_in_brackets E S) (λ q R. got (longest q) R)) (count_of E) S _ (λ P x m. m) (λ X. refl)
     (reads_count E Longest longest (λ L q h. count longest_suit h) S)
@@ -347,117 +386,28 @@ reads_count_of E (c ∷ S) = stops_at _ c (count_of E) S (some_count E) (λ X. r
 reads_count_alone : (N : Meanings) (E : Bound) (S : List Token) → Reads (SpellsAtom N E) (count_alone E) S (count_alone E S)
 reads_count_alone N E S =
     reads_after (SpellsCounted E) (λ k Q a. (Q ≡ []) × (a ≡ counted k)) (SpellsAtom N E) (count_of E) (λ k R. got (counted k) R) S (count_of E S)
-    (λ P Q k a h m. rw (m.0, m.1, append-nil P) (a_count h)) (λ k. ([], counted k, (refl, refl))) (reads_count_of E S) (λ k R. gets _ (counted k) R (refl, refl))
+    (λ P Q k a h m. rw (m.0, m.1, append-nil P) (a_count h)) (λ k. ([], counted k, (refl, refl))) (reads_count_of E S)
+    (λ k R. gets _ (counted k) R (refl, refl))
 
 -- nothing, or a factor's count, after a number
-reads_rest_of_number : (N : Meanings) (E : Bound) (n : ℕ) (S : List Token) → Reads (λ P. SpellsAtom N E (Number n ∷ P)) (rest_of_number E n) S (rest_of_number E n S)
+reads_rest_of_number : (N : Meanings) (E : Bound) (n : ℕ) (S : List Token)
+    → Reads (λ P. SpellsAtom N E (Number n ∷ P)) (rest_of_number E n) S (rest_of_number E n S)
 reads_rest_of_number N E n [] = gets_at_end _ (rest_of_number E n) (number n) a_number refl
 reads_rest_of_number N E n (Star ∷ S) =
-    reads_token (λ P. SpellsAtom N E (Number n ∷ Star ∷ P)) _ Star (λ S. after (count_of E S) (λ k R. got (times n k) R)) (rest_of_number E n) S _ (λ P x m. m) (λ X. refl)
-    (reads_after (SpellsCounted E) (λ k Q a. (Q ≡ []) × (a ≡ times n k)) (λ P. SpellsAtom N E (Number n ∷ Star ∷ P)) (count_of E) (λ k R. got (times n k) R) S (count_of E S)
-    (λ P Q k a h m. rw (m.0, m.1, append-nil P) (multiple tt h)) (λ k. ([], times n k, (refl, refl))) (reads_count_of E S) (λ k R. gets _ (times n k) R (refl, refl)))
+    reads_token (λ P. SpellsAtom N E (Number n ∷ Star ∷ P)) _ Star
+    (λ S. after (count_of E S) (λ k R. got (times n k) R)) (rest_of_number E n) S _ (λ P x m. m) (λ X. refl)
+    (reads_after (SpellsCounted E) (λ k Q a. (Q ≡ []) × (a ≡ times n k)) (λ P. SpellsAtom N E (Number n ∷ Star ∷ P))
+    (count_of E) (λ k R. got (times n k) R) S (count_of E S)
+    (λ P Q k a h m. rw (m.0, m.1, append-nil P) (multiple tt h)) (λ k. ([], times n k, (refl, refl)))
+    (reads_count_of E S) (λ k R. gets _ (times n k) R (refl, refl)))
 reads_rest_of_number N E n (c ∷ S) = gets_at _ c (rest_of_number E n) S (number n) a_number (λ X. refl)
 
-reads_number_or_count : (N : Meanings) (E : Bound) (S : List Token) → Reads (SpellsAtom N E) (number_or_count E) S (number_or_count E S)
+pub reads_number_or_count : (N : Meanings) (E : Bound) (S : List Token) → Reads (SpellsAtom N E) (number_or_count E) S (number_or_count E S)
 unfolding number_or_count
-reads_number_or_count N E [] = reads_like _ (count_alone E) (number_or_count E) [] _ (like_at_end (count_alone E) (number_or_count E) refl) (reads_count_alone N E [])
+reads_number_or_count N E [] = reads_like _ (count_alone E) (number_or_count E) [] _
+    (like_at_end (count_alone E) (number_or_count E) refl) (reads_count_alone N E [])
 reads_number_or_count N E (Number n ∷ S) =
-    reads_token (λ P. SpellsAtom N E (Number n ∷ P)) (SpellsAtom N E) (Number n) (rest_of_number E n) (number_or_count E) S _ (λ P x m. m) (λ X. refl) (reads_rest_of_number N E n S)
-reads_number_or_count N E (c ∷ S) = reads_like _ (count_alone E) (number_or_count E) (c ∷ S) _ (like_at (count_alone E) (number_or_count E) c S (λ X. refl)) (reads_count_alone N E (c ∷ S))
-
--- ---- names of values
-
--- ( suit )
-abbrev IsSuitIn : Bound → List Token → ASuit → Type 0
-IsSuitIn E P s = (c : Token) × Names E c s × (P ≡ Open ∷ c ∷ Close ∷ [])
-
-reads_suit_in_brackets : (E : Bound) (S : List Token) → Reads (IsSuitIn E) (suit_in_brackets E) S (suit_in_brackets E S)
-reads_suit_in_brackets E S =
-    reads_then (λ _. Open ∷ []) (IsSuitIn E) opened (λ _ S. after (suit E S) closing) S (opened S)
-    (λ _. (Suit Spades ∷ Close ∷ [], Spades, (Suit Spades, by_suit, refl))) (reads_opened S)
-    (λ _ R. reads_named E (λ P. IsSuitIn E (Open ∷ P)) closing R
-    (λ s. (Close ∷ [], s, λ c n. (c, n, refl))) (λ s R. reads_closing _ s R (λ c n. (c, n, refl))))
-
-pub reads_args : (E : Bound) (p : Params) (S : List Token) → Reads (SpellsArgs E p) (args E p) S (args E p S)
-reads_args E Plain S = gets _ (choice Spades North) S no_args
-reads_args E OfSeat S =
-    reads_after (IsSeatAnd Close E) (λ q Q x. (Q ≡ []) × (x ≡ choice Spades q)) (SpellsArgs E OfSeat) (seat_in_brackets E) (λ q R. got (choice Spades q) R) S (seat_in_brackets E S)
-    (λ P Q q x h m. rw (m.0, m.1, append-nil P, h.2) (seat_arg h.1)) (λ q. ([], choice Spades q, (refl, refl))) (reads_seat_in_brackets E S) (λ q R. gets _ (choice Spades q) R (refl, refl))
-reads_args E OfSuit S =
-    reads_after (IsSuitIn E) (λ s Q x. (Q ≡ []) × (x ≡ choice s North)) (SpellsArgs E OfSuit) (suit_in_brackets E) (λ s R. got (choice s North) R) S (suit_in_brackets E S)
-    (λ P Q s x h m. rw (m.0, m.1, append-nil P, h.2) (suit_arg h.1)) (λ s. ([], choice s North, (refl, refl))) (reads_suit_in_brackets E S) (λ s R. gets _ (choice s North) R (refl, refl))
-reads_args E OfBoth S =
-    reads_after (AreSeatAndSuit E) (λ p Q x. (Q ≡ []) × (x ≡ choice p.1 p.0)) (SpellsArgs E OfBoth) (seat_and_suit E) (λ p R. got (choice p.1 p.0) R) S (seat_and_suit E S)
-    (λ P Q p x h m. rw (m.0, m.1, append-nil P, h.4) (both_args h.1 h.3)) (λ p. ([], choice p.1 p.0, (refl, refl))) (reads_seat_and_suit E S) (λ p R. gets _ (choice p.1 p.0) R (refl, refl))
-
--- arguments, and what is made of them
-pub reads_used :
-    {A : Type 0} (E : Bound) (p : Params) (f : Choice → A) (K : List Token → A → Type 0)
-    → ((P : List Token) (x : Choice) → SpellsArgs E p P x → K P (f x)) → (S : List Token)
-    → Reads K (λ S. after (args E p S) (λ x R. got (f x) R)) S (after (args E p S) (λ x R. got (f x) R))
-reads_used {A} E p f K h S =
-    reads_after (SpellsArgs E p) (λ x Q a. (Q ≡ []) × (a ≡ f x)) K (args E p) (λ x R. got (f x) R) S (args E p S)
-    (λ P Q x a i m. rw (m.0, m.1, append-nil P) (h P x i)) (λ x. ([], f x, (refl, refl))) (reads_args E p S) (λ x R. gets _ (f x) R (refl, refl))
-
-pub reads_value_used : (N : Meanings) (E : Bound) (n : ℕ) (S : List Token) (m : Option Meaning) → slice_get N n ≡ m → Reads (SpellsAtom N E) (atom_of N E) (Name n ∷ S) (value_used m E n S)
-unfolding atom_of
-reads_value_used N E n S (Some (value p f)) e =
-    reads_token (λ P. SpellsAtom N E (Name n ∷ P)) (SpellsAtom N E) (Name n) (λ S. after (args E p S) (λ x R. got (f x) R)) (atom_of N E) S _ (λ P x m. m)
-    (λ X. ap (λ m. value_used m E n X) e) (reads_used E p f (λ P. SpellsAtom N E (Name n ∷ P)) (λ P x h. named_value e h) S)
-reads_value_used N E n S (Some (condition p f)) e = stops_at _ (Name n) (atom_of N E) S (Number 0 ∷ [], number 0, a_number) (λ X. ap (λ m. value_used m E n X) e)
-reads_value_used N E n S None e = stops_at _ (Name n) (atom_of N E) S (Number 0 ∷ [], number 0, a_number) (λ X. ap (λ m. value_used m E n X) e)
-
-pub reads_atom : (N : Meanings) (E : Bound) (S : List Token) → Reads (SpellsAtom N E) (atom_of N E) S (atom_of N E S)
-unfolding atom_of
-reads_atom N E [] = reads_like _ (number_or_count E) (atom_of N E) [] _ (like_at_end (number_or_count E) (atom_of N E) refl) (reads_number_or_count N E [])
-reads_atom N E (Name n ∷ S) = reads_value_used N E n S (slice_get N n) refl
-reads_atom N E (c ∷ S) = reads_like _ (number_or_count E) (atom_of N E) (c ∷ S) _ (like_at (number_or_count E) (atom_of N E) c S (λ X. refl)) (reads_number_or_count N E (c ∷ S))
-
--- four items with dashes between them
-abbrev pub AreItems : List Token → List Item → Type 0
-AreItems P n = (a : Item) × (b : Item) × (c : Item) × (d : Item) × (n ≡ a ∷ b ∷ c ∷ d ∷ []) × (P ≡ item_token a ∷ Dash ∷ item_token b ∷ Dash ∷ item_token c ∷ Dash ∷ item_token d ∷ [])
-
--- a number to go on with
-abbrev o : Item
-o = Length 0
-
-pub reads_items : (S : List Token) → Reads AreItems items S (items S)
-unfolding items
-reads_items S =
-    reads_then (λ a. item_token a ∷ []) AreItems item _ S (item S)
-    (λ a. (Dash ∷ Number 0 ∷ Dash ∷ Number 0 ∷ Dash ∷ Number 0 ∷ [], a ∷ o ∷ o ∷ o ∷ [], (a, o, o, o, refl, refl))) (reads_item S)
-    (λ a S. reads_then (λ _. Dash ∷ []) (λ P. AreItems (item_token a ∷ P)) dash _ S (dash S)
-    (λ _. (Number 0 ∷ Dash ∷ Number 0 ∷ Dash ∷ Number 0 ∷ [], a ∷ o ∷ o ∷ o ∷ [], (a, o, o, o, refl, refl))) (reads_dash S)
-    (λ _ S. reads_then (λ b. item_token b ∷ []) (λ P. AreItems (item_token a ∷ Dash ∷ P)) item _ S (item S)
-    (λ b. (Dash ∷ Number 0 ∷ Dash ∷ Number 0 ∷ [], a ∷ b ∷ o ∷ o ∷ [], (a, b, o, o, refl, refl))) (reads_item S)
-    (λ b S. reads_then (λ _. Dash ∷ []) (λ P. AreItems (item_token a ∷ Dash ∷ item_token b ∷ P)) dash _ S (dash S)
-    (λ _. (Number 0 ∷ Dash ∷ Number 0 ∷ [], a ∷ b ∷ o ∷ o ∷ [], (a, b, o, o, refl, refl))) (reads_dash S)
-    (λ _ S. reads_then (λ c. item_token c ∷ []) (λ P. AreItems (item_token a ∷ Dash ∷ item_token b ∷ Dash ∷ P)) item _ S (item S)
-    (λ c. (Dash ∷ Number 0 ∷ [], a ∷ b ∷ c ∷ o ∷ [], (a, b, c, o, refl, refl))) (reads_item S)
-    (λ c S. reads_then (λ _. Dash ∷ []) (λ P. AreItems (item_token a ∷ Dash ∷ item_token b ∷ Dash ∷ item_token c ∷ P)) dash _ S (dash S)
-    (λ _. (Number 0 ∷ [], a ∷ b ∷ c ∷ o ∷ [], (a, b, c, o, refl, refl))) (reads_dash S)
-    (λ _ S. reads_then (λ d. item_token d ∷ []) (λ P. AreItems (item_token a ∷ Dash ∷ item_token b ∷ Dash ∷ item_token c ∷ Dash ∷ P)) item _ S (item S)
-    (λ d. ([], a ∷ b ∷ c ∷ d ∷ [], (a, b, c, d, refl, refl))) (reads_item S)
-    (λ d S. gets _ (a ∷ b ∷ c ∷ d ∷ []) S (a, b, c, d, refl, refl))))))))
-
--- ( seat , a - b - c - d )
-abbrev pub AreSeatAndItems : Bound → List Token → ASeat × List Item → Type 0
-AreSeatAndItems E P p =
-    (a : Item) × (b : Item) × (c : Item) × (d : Item) × (p.1 ≡ a ∷ b ∷ c ∷ d ∷ []) × (L : List Token) × SpellsSeat E L p.0 × (P ≡ Open ∷ L ++ four a b c d)
-
-joined :
-    (E : Bound) (q : ASeat) (P Q : List Token) (n : List Item) (t : ASeat × List Item) → AreItems P n → (t ≡ (q, n)) × (Q ≡ Close ∷ [])
-    → BehindSeat E (AreSeatAndItems E) q (Comma ∷ P ++ Q) t
-joined E q P Q n t (a, b, c, d, e, i) m = λ L l. (a, b, c, d, ap (λ t. t.1) m.0 ∙ e, L, rw m.0 l, rw (m.1, i) refl)
-
-pub reads_seat_and_items : (E : Bound) (S : List Token) → Reads (AreSeatAndItems E) (seat_and_items E) S (seat_and_items E S)
-unfolding seat_and_items
-reads_seat_and_items E S =
-    reads_behind_seat E (AreSeatAndItems E) _ S
-    (λ q. (Comma ∷ Number 0 ∷ Dash ∷ Number 0 ∷ Dash ∷ Number 0 ∷ Dash ∷ Number 0 ∷ Close ∷ [], (q, (o ∷ o ∷ o ∷ o ∷ [])), λ L l. (o, o, o, o, refl, L, l, refl)))
-    (λ q S. reads_then (λ _. Comma ∷ []) (BehindSeat E (AreSeatAndItems E) q) comma _ S (comma S)
-    (λ _. (Number 0 ∷ Dash ∷ Number 0 ∷ Dash ∷ Number 0 ∷ Dash ∷ Number 0 ∷ Close ∷ [], (q, (o ∷ o ∷ o ∷ o ∷ [])), λ L l. (o, o, o, o, refl, L, l, refl))) (reads_comma S)
-    (λ _ S. reads_after AreItems (λ n P t. (t ≡ (q, n)) × (P ≡ Close ∷ [])) (λ P. BehindSeat E (AreSeatAndItems E) q (Comma ∷ P)) items (λ n S. closing (q, n) S) S (items S)
-    (joined E q)
-    (λ n. (Close ∷ [], (q, n), (refl, refl))) (reads_items S)
-    (λ n S. reads_closing _ (q, n) S (refl, refl))))
+    reads_token (λ P. SpellsAtom N E (Number n ∷ P)) (SpellsAtom N E) (Number n) (rest_of_number E n)
+    (number_or_count E) S _ (λ P x m. m) (λ X. refl) (reads_rest_of_number N E n S)
+reads_number_or_count N E (c ∷ S) = reads_like _ (count_alone E) (number_or_count E) (c ∷ S) _
+    (like_at (count_alone E) (number_or_count E) c S (λ X. refl)) (reads_count_alone N E (c ∷ S))

@@ -20,7 +20,8 @@ pub one_fault : (text : List ℕ) (e f : CondError) → HasFault text e → HasF
 one_fault text e f h k =
     let x = fault_told text e h in
     let y = fault_told text f k in
-    let same : told_from 0 (named x.pieces) ≡ told_from 0 (named y.pieces) = ap (λ ps. told_from 0 (named ps)) (one_cut text x.pieces y.pieces x.cut y.cut) in
+    let same : told_from 0 (named x.pieces) ≡ told_from 0 (named y.pieces) =
+    ap (λ ps. told_from 0 (named ps)) (one_cut text x.pieces y.pieces x.cut y.cut) in
     let a = x.found in
     let b = y.found in
     cc
@@ -29,7 +30,8 @@ pub one_tokens : (text : List ℕ) (xs ys : List Placed) → HasTokens text xs �
 one_tokens text xs ys h k =
     let x = tokens_told text xs h in
     let y = tokens_told text ys k in
-    let same : told_from 0 (named x.pieces) ≡ told_from 0 (named y.pieces) = ap (λ ps. told_from 0 (named ps)) (one_cut text x.pieces y.pieces x.cut y.cut) in
+    let same : told_from 0 (named x.pieces) ≡ told_from 0 (named y.pieces) =
+    ap (λ ps. told_from 0 (named ps)) (one_cut text x.pieces y.pieces x.cut y.cut) in
     let a = x.found in
     let b = y.found in
     cc
@@ -38,7 +40,8 @@ pub no_tokens : (text : List ℕ) (e : CondError) (xs : List Placed) → HasFaul
 no_tokens text e xs h k =
     let x = fault_told text e h in
     let y = tokens_told text xs k in
-    let same : told_from 0 (named x.pieces) ≡ told_from 0 (named y.pieces) = ap (λ ps. told_from 0 (named ps)) (one_cut text x.pieces y.pieces x.cut y.cut) in
+    let same : told_from 0 (named x.pieces) ≡ told_from 0 (named y.pieces) =
+    ap (λ ps. told_from 0 (named ps)) (one_cut text x.pieces y.pieces x.cut y.cut) in
     let a = x.found in
     let b = y.found in
     cc

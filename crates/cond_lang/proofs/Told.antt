@@ -9,7 +9,8 @@ use Rattle.cond_lang.specs.declared.scanner.Token.TheVariants.{Let}
 use Rattle.cond_lang.specs.declared.scanner.Piece.TheVariants.{Separator, Token as TokenPiece, StrayByte, UnknownWord, LongNumber}
 use Rattle.conditions.specs.declared.error.CondError.{CondError}
 use Rattle.conditions.specs.declared.error.CondError.TheVariants.{Byte, Word, Number}
-use Rattle.cond_lang.specs.Cut.{Pieces, IsCut, no_names, named_piece, naming_after, named_from, named, placed_from, token_at, fault_at, IsSound, tokens_of, HasTokens}
+use Rattle.cond_lang.specs.Cut.{Pieces, IsCut, no_names, named_piece, naming_after, named_from, named, placed_from}
+use Rattle.cond_lang.specs.Cut.{token_at, fault_at, IsSound, tokens_of, HasTokens}
 use Rattle.cond_lang.specs.Faults.{bytes_of, HasFault}
 
 -- tokens, or a fault

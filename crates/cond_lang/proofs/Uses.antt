@@ -9,7 +9,8 @@ use Rattle.cond_lang.specs.declared.scanner.Token.TheVariants.{Open, Close, Name
 use Rattle.conditions.specs.Form.{Amount, Form}
 use Rattle.cond_lang.specs.Classes.{given}
 use Rattle.cond_lang.specs.Definitions.{IsBody, a_condition, a_value}
-use Rattle.cond_lang.specs.Grammar.{Meaning, Meanings, condition, value, SpellsArgs, SpellsUnit, SpellsCond, SpellsValue, brackets, test, named_condition, atom, named_value}
+use Rattle.cond_lang.specs.Grammar.{Meaning, Meanings, condition, value, SpellsArgs, SpellsUnit, SpellsCond}
+use Rattle.cond_lang.specs.Grammar.{SpellsValue, brackets, test, named_condition, atom, named_value}
 use Rattle.cond_lang.proofs.Kept.{get_behind}
 use Rattle.cond_lang.proofs.Spelled.{spelled_unit, value_read}
 
@@ -20,11 +21,13 @@ one_amount : {N : Meanings} {E : Bound} {T : List Token} {a b : Amount} → Spel
 one_amount h k = let x = value_read h [] (λ e. cc, λ e. cc) in let y = value_read k [] (λ e. cc, λ e. cc) in cc
 
 -- what the body of a condition's name spells
-condition_body : {N : Meanings} {p : Params} {B : List Token} {m : Meaning} → IsBody N p B m → (q : Params) (f : Choice → Form) → m ≡ condition q f → (x : Choice) → SpellsCond N (given p x) B (f x)
+condition_body : {N : Meanings} {p : Params} {B : List Token} {m : Meaning} → IsBody N p B m
+    → (q : Params) (f : Choice → Form) → m ≡ condition q f → (x : Choice) → SpellsCond N (given p x) B (f x)
 condition_body {N} {p} {B} (a_condition {f = g} h) q f e x = let same : g ≡ f = cc in subst (λ f. SpellsCond N (given p x) B (f x)) same (h x)
 condition_body (a_value h) q f e x = absurd (cc)
 
-value_body : {N : Meanings} {p : Params} {B : List Token} {m : Meaning} → IsBody N p B m → (q : Params) (f : Choice → Amount) → m ≡ value q f → (x : Choice) → SpellsValue N (given p x) B (f x)
+value_body : {N : Meanings} {p : Params} {B : List Token} {m : Meaning} → IsBody N p B m
+    → (q : Params) (f : Choice → Amount) → m ≡ value q f → (x : Choice) → SpellsValue N (given p x) B (f x)
 value_body {N} {p} {B} (a_value {f = g} h) q f e x = let same : g ≡ f = cc in subst (λ f. SpellsValue N (given p x) B (f x)) same (h x)
 value_body (a_condition h) q f e x = absurd (cc)
 

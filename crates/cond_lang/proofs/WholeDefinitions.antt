@@ -1,5 +1,6 @@
 -- The definitions that some tokens begin with, as far as they are whole.
-use Rattle.std.proofs.Common.{◌≡◌, ℕ, ◌≤◌, Bool, true, false, List, [], ◌∷◌, ◌++◌, Some, None, length, slice_get, take, refl, sym, ap, ◌∙◌, subst, append_assoc, append-nil, length-append, arith}
+use Rattle.std.proofs.Common.{◌≡◌, ℕ, ◌≤◌, Bool, true, false, List, [], ◌∷◌, ◌++◌, Some, None, length, slice_get}
+use Rattle.std.proofs.Common.{take, refl, sym, ap, ◌∙◌, subst, append_assoc, append-nil, length-append, arith}
 use Rattle.cond_lang.specs.declared.classes.Params.{Params}
 use Rattle.cond_lang.specs.declared.parser.names.Named.{Named}
 use Rattle.cond_lang.specs.declared.scanner.Token.{Token}
@@ -14,7 +15,8 @@ use Rattle.cond_lang.proofs.Kept.{meanings_length, meanings_more, meaning_at, so
 use Rattle.cond_lang.proofs.Sequences.{Reads}
 
 -- one definition more behind others
-more_definitions : {N M : Meanings} {D d : List Token} {m : Meaning} → AreDefinitions N D M → IsDefinition M d m → AreDefinitions N (D ++ Let ∷ d) (M ++ m ∷ [])
+more_definitions : {N M : Meanings} {D d : List Token} {m : Meaning} → AreDefinitions N D M → IsDefinition M d m
+    → AreDefinitions N (D ++ Let ∷ d) (M ++ m ∷ [])
 more_definitions {N} {d} {m} none h = subst (λ L. AreDefinitions N (Let ∷ L) (N ++ m ∷ [])) (append-nil d) (one_more h none)
 more_definitions {M} {d} {m} (one_more {N} {D} {T} k ks) h =
     subst (λ L. AreDefinitions N (Let ∷ L) (M ++ m ∷ [])) (sym (append_assoc D T (Let ∷ d))) (one_more k (more_definitions ks h))
@@ -55,10 +57,12 @@ none_yet T ms e = subst (λ ms. Whole T ms T) (sym e) (record { sound = tt; done
 
 pub one_name_more :
     (T : List Token) (ms more slice : List Named) (m : Named) (t : Token) (S R Q : List Token) → Whole T ms S → slice ≡ ms → more ≡ ms ++ m ∷ []
-    → IsSound (meanings slice) m → S ≡ t ∷ R → front S ≡ Some Let → definition (meanings slice) R ≡ got (meaning (meanings slice) m) Q → Whole T more Q
+    → IsSound (meanings slice) m → S ≡ t ∷ R → front S ≡ Some Let
+    → definition (meanings slice) R ≡ got (meaning (meanings slice) m) Q → Whole T more Q
 one_name_more T ms more slice m t S R Q w same grown sound cut sight read =
     let s : IsSound (meanings ms) m = subst (λ ms. IsSound (meanings ms) m) same sound in
-    let e : definition (meanings ms) R ≡ got (meaning (meanings ms) m) Q = subst (λ ms. definition (meanings ms) R ≡ got (meaning (meanings ms) m) Q) same read in
+    let e : definition (meanings ms) R ≡ got (meaning (meanings ms) m) Q =
+    subst (λ ms. definition (meanings ms) R ≡ got (meaning (meanings ms) m) Q) same read in
     let h : Reads (IsDefinition (meanings ms)) (definition (meanings ms)) R (got (meaning (meanings ms) m) Q) =
     subst (λ o. Reads (IsDefinition (meanings ms)) (definition (meanings ms)) R o) e (reads_definition (meanings ms) R) in
     let is_let : t ≡ Let = cc in
@@ -66,7 +70,8 @@ one_name_more T ms more slice m t S R Q w same grown sound cut sight read =
     record {
       sound = subst AreSound (sym grown) (sound_more ms m w.sound s);
       done = w.done ++ Let ∷ h.done;
-      are = subst (λ N. AreDefinitions [] (w.done ++ Let ∷ h.done) N) (sym (meanings_more ms m) ∙ ap meanings (sym grown)) (more_definitions w.are h.right);
+      are = subst (λ N. AreDefinitions [] (w.done ++ Let ∷ h.done) N)
+          (sym (meanings_more ms m) ∙ ap meanings (sym grown)) (more_definitions w.are h.right);
       cut = w.cut ∙ ap (λ S. w.done ++ S) there ∙ sym (append_assoc w.done (Let ∷ h.done) Q);
       shorter = omega (arith, w.shorter, ap length there, length-append (Let ∷ h.done) Q);
     }
@@ -76,7 +81,8 @@ pub ends_there : (ms : List Named) (S : List Token) → (front S ≡ Some Let �
 ends_there ms S n d R m e h = n (ap front e)
 
 pub breaks_there :
-    (ms slice : List Named) (t : Token) (S R Q : List Token) → slice ≡ ms → S ≡ t ∷ R → definition (meanings slice) R ≡ stuck Q → NoMore (meanings ms) S
+    (ms slice : List Named) (t : Token) (S R Q : List Token) → slice ≡ ms → S ≡ t ∷ R
+    → definition (meanings slice) R ≡ stuck Q → NoMore (meanings ms) S
 breaks_there ms slice t S R Q same cut read d X m e h =
     let r : definition (meanings ms) R ≡ stuck Q = subst (λ ms. definition (meanings ms) R ≡ stuck Q) same read in
     let there : R ≡ d ++ X = cc in
@@ -86,7 +92,8 @@ breaks_there ms slice t S R Q same cut read d X m e h =
 pub begins : (T : List Token) (ms : List Named) (S : List Token) → Whole T ms S → BeginsWith (meanings ms) T
 begins T ms S w = (w.done, S, w.are, w.cut)
 
-pub all_begun : (T : List Token) (ms : List Named) (S : List Token) → Whole T ms S → NoMore (meanings ms) S → (N : Meanings) → BeginsWith N T → length N ≤ length ms
+pub all_begun : (T : List Token) (ms : List Named) (S : List Token) → Whole T ms S → NoMore (meanings ms) S
+    → (N : Meanings) → BeginsWith N T → length N ≤ length ms
 all_begun T ms S w stop N b = omega (arith, most b.2 w.are b.1 S (sym b.3 ∙ w.cut) stop, meanings_length ms)
 
 -- ---- what is told of a name
@@ -96,7 +103,8 @@ kind_is N true p S = refl
 kind_is N false p S = refl
 
 pub tells_given :
-    (T : List Token) (ms : List Named) (n : ℕ) (m : Named) → AreSound ms → BeginsWith (meanings ms) T → slice_get ms n ≡ Some m → TellsName T n (Some m.is_value)
+    (T : List Token) (ms : List Named) (n : ℕ) (m : Named) → AreSound ms → BeginsWith (meanings ms) T
+    → slice_get ms n ≡ Some m → TellsName T n (Some m.is_value)
 tells_given T ms n m s b e =
     (meanings ms, meaning (meanings (take n ms)) m, b, meaning_at ms n m s e, kind_is (meanings (take n ms)) m.is_value m.params (kinds m.body.now))
 

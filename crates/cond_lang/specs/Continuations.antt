@@ -4,7 +4,11 @@ use Rattle.cond_lang.specs.declared.words.Kind.{Kind}
 use Rattle.cond_lang.specs.declared.words.Kind.TheVariants as kind
 use Rattle.cond_lang.specs.declared.scanner.Placed.{Placed}
 use Rattle.cond_lang.specs.declared.scanner.Token.{Token}
-use Rattle.cond_lang.specs.declared.scanner.Token.TheVariants.{Or, And, Not, Balanced, Shape, Pattern, Quantifier, Stops, Measure, Cards, Len, Longest, Second, Shortest, In, X, Seat, Suit, Class, Neighbour, Ranks, Number, Open, Close, Comma, Dash, Plus, Star, Relation, Let, Is, Name}
+use Rattle.cond_lang.specs.declared.scanner.Token.TheVariants.{Or, And, Not, Balanced, Shape, Pattern, Quantifier}
+use Rattle.cond_lang.specs.declared.scanner.Token.TheVariants.{Stops, Measure, Cards, Len, Longest, Second, Shortest}
+use Rattle.cond_lang.specs.declared.scanner.Token.TheVariants.{In, X, Seat, Suit, Class, Neighbour, Ranks, Number}
+use Rattle.cond_lang.specs.declared.scanner.Token.TheVariants.{Open, Close, Comma, Dash, Plus, Star, Relation, Let}
+use Rattle.cond_lang.specs.declared.scanner.Token.TheVariants.{Is, Name}
 use Rattle.cond_lang.specs.Cut.{HasTokens}
 use Rattle.cond_lang.specs.Faults.{IsViableIn}
 use Rattle.cond_lang.specs.Definitions.{Spells}

@@ -44,8 +44,13 @@ use Rattle.cond_lang.specs.declared.classes.Params.TheVariants.{Plain, OfSeat, O
 use Rattle.cond_lang.specs.declared.classes.Quantifier.{Quantifier as AQuantifier}
 use Rattle.cond_lang.specs.declared.classes.Quantifier.TheVariants.{Any as OneOf, Every}
 use Rattle.cond_lang.specs.declared.scanner.Token.{Token}
-use Rattle.cond_lang.specs.declared.scanner.Token.TheVariants.{Or, And, Not, Balanced, Shape, Pattern, Quantifier, Stops, Measure, Cards, Len, Longest, Second, Shortest, In, X, Seat, Class, Neighbour, Ranks, Number, Open, Close, Comma, Dash, Plus, Star, Relation, Name}
-use Rattle.conditions.specs.Form.{Amount, sum, number, counted, times, measured, suit_measured, cards_held, suit_cards_held, suit_length, longest, second, shortest, Form, any_of, all_of, negation, compare, within, balanced, shaped, patterned, stops}
+use Rattle.cond_lang.specs.declared.scanner.Token.TheVariants.{Or, And, Not, Balanced, Shape, Pattern, Quantifier}
+use Rattle.cond_lang.specs.declared.scanner.Token.TheVariants.{Stops, Measure, Cards, Len, Longest, Second, Shortest}
+use Rattle.cond_lang.specs.declared.scanner.Token.TheVariants.{In, X, Seat, Class, Neighbour, Ranks, Number, Open}
+use Rattle.cond_lang.specs.declared.scanner.Token.TheVariants.{Close, Comma, Dash, Plus, Star, Relation, Name}
+use Rattle.conditions.specs.Form.{Amount, sum, number, counted, times, measured, suit_measured, cards_held}
+use Rattle.conditions.specs.Form.{suit_cards_held, suit_length, longest, second, shortest, Form, any_of, all_of}
+use Rattle.conditions.specs.Form.{negation, compare, within, balanced, shaped, patterned, stops}
 use Rattle.cond_lang.specs.Classes.{bind, can_bind, members, Names, choice, seat_bound_to, seat_beside}
 
 -- what came to the language after its first words: `any`, `every`, `second` and `stops`, then the

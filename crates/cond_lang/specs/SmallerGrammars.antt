@@ -11,11 +11,17 @@ use Rattle.conditions.specs.declared.tree.Count.{Count}
 use Rattle.conditions.specs.declared.tree.Op.{Op}
 use Rattle.cond_lang.specs.declared.classes.Bound.{Bound}
 use Rattle.cond_lang.specs.declared.scanner.Token.{Token}
-use Rattle.cond_lang.specs.declared.scanner.Token.TheVariants.{Balanced, Shape, Pattern, Quantifier, Stops, Measure, Cards, Len, Longest, Second, Shortest, In, X, Seat, Suit, Class, Neighbour, Ranks, Number, Open, Close, Comma, Dash, Plus, Star, Relation, Let, Is, Name}
-use Rattle.conditions.specs.Form.{Amount, Form, number, counted, times, points, suit_points, cards_held, suit_cards_held, suit_length, longest, second, shortest, compare, balanced, shape, pattern}
+use Rattle.cond_lang.specs.declared.scanner.Token.TheVariants.{Balanced, Shape, Pattern, Quantifier, Stops, Measure}
+use Rattle.cond_lang.specs.declared.scanner.Token.TheVariants.{Cards, Len, Longest, Second, Shortest, In, X, Seat}
+use Rattle.cond_lang.specs.declared.scanner.Token.TheVariants.{Suit, Class, Neighbour, Ranks, Number, Open, Close}
+use Rattle.cond_lang.specs.declared.scanner.Token.TheVariants.{Comma, Dash, Plus, Star, Relation, Let, Is, Name}
+use Rattle.conditions.specs.Form.{Amount, Form, number, counted, times, points, suit_points, cards_held}
+use Rattle.conditions.specs.Form.{suit_cards_held, suit_length, longest, second, shortest, compare, balanced, shape}
+use Rattle.conditions.specs.Form.{pattern}
 use Rattle.cond_lang.specs.Classes.{unbound, Names}
 use Rattle.cond_lang.specs.Faults.{IsViableIn}
-use Rattle.cond_lang.specs.Grammar.{Addition, quantifiers, seats, factors, addition_of, everything, SpellsSeat, Amounts, SpellsAtom, AtomOf, ValueOf, TestOf, CondOf}
+use Rattle.cond_lang.specs.Grammar.{Addition, quantifiers, seats, factors, addition_of, everything, SpellsSeat}
+use Rattle.cond_lang.specs.Grammar.{Amounts, SpellsAtom, AtomOf, ValueOf, TestOf, CondOf}
 
 -- the rules with the additions W alone, where no name is given
 abbrev pub SpellsWith : (Addition → Type 0) → List Token → Form → Type 0

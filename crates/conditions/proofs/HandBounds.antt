@@ -1,5 +1,6 @@
 -- What a hand of thirteen cards is at the most.
-use Rattle.std.proofs.Common.{◌≡◌, ◌≤◌, ◌+◌, ◌/◌, ◌&&◌, ◌==◌, ◌∙◌, ℕ, zero, suc, Bool, true, false, cond, List, [], ◌∷◌, ap, arith, length, map, max, min, refl, sym}
+use Rattle.std.proofs.Common.{◌≡◌, ◌≤◌, ◌+◌, ◌/◌, ◌&&◌, ◌==◌, ◌∙◌, ℕ, zero, suc, Bool, true, false, cond, List, []}
+use Rattle.std.proofs.Common.{◌∷◌, ap, arith, length, map, max, min, refl, sym}
 use Rattle.std.specs.List.{sum_by}
 use Rattle.std.proofs.lemmas.Bool.{true≢false}
 use Rattle.std.proofs.lemmas.List.{get_or_past}
@@ -72,7 +73,8 @@ same_sum f g e [] = refl
 same_sum f g e (x ∷ xs) = omega (arith, sum_by-cons f x xs, sum_by-cons g x xs, e x, same_sum f g e xs)
 
 pub lengths_add : (deal : List Seat) (q : Seat) → IsPartition deal
-    → length_of (hand_of deal q) Spades + length_of (hand_of deal q) Hearts + length_of (hand_of deal q) Diamonds + length_of (hand_of deal q) Clubs ≡ 13
+    → length_of (hand_of deal q) Spades + length_of (hand_of deal q) Hearts + length_of (hand_of deal q) Diamonds
+    + length_of (hand_of deal q) Clubs ≡ 13
 lengths_add deal q ok =
     let hand : List Bool = hand_of deal q in
     let in_suit : ℕ → ℕ → ℕ = λ k c. cond ((c / 13 == k) && holds_card hand c) 1 0 in

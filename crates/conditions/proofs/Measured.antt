@@ -1,5 +1,6 @@
 -- What a hand counts at the most.
-use Rattle.std.proofs.Common.{◌≡◌, ◌≤◌, ◌+◌, ◌-◌, ◌*◌, ◌%◌, ◌&&◌, ℕ, min, not, Bool, true, false, cond, List, [], ◌∷◌, ap, arith, get_or, length, option_map, unwrap_or, IfSome, Option, Some, None, sum}
+use Rattle.std.proofs.Common.{◌≡◌, ◌≤◌, ◌+◌, ◌-◌, ◌*◌, ◌%◌, ◌&&◌, ℕ, min, not, Bool, true, false, cond, List, [], ◌∷◌}
+use Rattle.std.proofs.Common.{ap, arith, get_or, length, option_map, unwrap_or, IfSome, Option, Some, None, sum}
 use Rattle.std.specs.List.{range_with_len, sum_by}
 use Rattle.std.proofs.lemmas.List.FromFn.{length-range_with_len}
 use Rattle.std.proofs.lemmas.List.Sums.{count_by-le-length, sum_by-cons}
@@ -104,7 +105,13 @@ suit_losers_most hand suit =
     )
 
 pub losers_most : (hand : List Bool) → losers_of hand ≤ 12
-losers_most hand = omega (arith, suit_losers_most hand Spades, suit_losers_most hand Hearts, suit_losers_most hand Diamonds, suit_losers_most hand Clubs)
+losers_most hand = omega (
+  arith,
+  suit_losers_most hand Spades,
+  suit_losers_most hand Hearts,
+  suit_losers_most hand Diamonds,
+  suit_losers_most hand Clubs,
+)
 
 -- ---- measures
 

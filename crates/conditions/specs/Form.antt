@@ -15,7 +15,8 @@ use Rattle.conditions.specs.declared.tree.Count.TheVariants as counts
 use Rattle.conditions.specs.declared.tree.Value.{Value}
 use Rattle.conditions.specs.declared.tree.Value.TheVariants.{Sum', Number, Count as HandCount, Times}
 use Rattle.conditions.specs.declared.tree.Tree.{Tree}
-use Rattle.conditions.specs.declared.tree.Tree.TheVariants.{AnyOf', AllOf', Negation', Compare, Within, Balanced, Shape, Pattern, LooseShape, LoosePattern, Stops}
+use Rattle.conditions.specs.declared.tree.Tree.TheVariants.{AnyOf', AllOf', Negation', Compare, Within, Balanced}
+use Rattle.conditions.specs.declared.tree.Tree.TheVariants.{Shape, Pattern, LooseShape, LoosePattern, Stops}
 
 -- what is counted in a hand
 abbrev pub measured : Measure → Seat → Count

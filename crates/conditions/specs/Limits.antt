@@ -1,7 +1,8 @@
 -- The limits that every condition keeps: how many atoms a value adds up, and how large a number is.
 use Rattle.std.specs.Prelude.{ℕ, ◌+◌, ◌≤◌, All}
 use Rattle.conditions.specs.declared.limits.TheConstants.{MOST_PARTS}
-use Rattle.conditions.specs.Form.{Amount, sum, number, counted, times, Form, any_of, all_of, negation, compare, within, balanced, shape, pattern, loose_shape, loose_pattern, stops, number_of}
+use Rattle.conditions.specs.Form.{Amount, sum, number, counted, times, Form, any_of, all_of, negation, compare}
+use Rattle.conditions.specs.Form.{within, balanced, shape, pattern, loose_shape, loose_pattern, stops, number_of}
 
 -- the atoms of a value: each part that isn't a sum is one
 abbrev pub atoms_of : Amount → ℕ

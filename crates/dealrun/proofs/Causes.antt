@@ -18,30 +18,38 @@ use Rattle.dealrun.specs.internal.Causes.{cause_by}
 use Rattle.dealrun.specs.internal.Joins.{AllParts, ByNumber, JoinedAs, Owes}
 use Rattle.dealrun.specs.internal.Writing.{HasRest, WriterSoFar, WroteBeside}
 use Rattle.dealrun.proofs.Endings.{stand_complete}
-use Rattle.dealrun.proofs.Finals.{all_whole, gives_up_still, goes_on_still, joined_parts, joined_settled, joined_whole, least_stopped, least_unclosed, stands_broken}
+use Rattle.dealrun.proofs.Finals.{all_whole, gives_up_still, goes_on_still, joined_parts, joined_settled}
+use Rattle.dealrun.proofs.Finals.{joined_whole, least_stopped, least_unclosed, stands_broken}
 
 -- lanes from which the same was taken
-pub wrote_still : (layout : Layout) (has : List Board → Type 0) (plan : Planned) (written : Written) (lanes lanes' : List OutView) (t boards : ℕ) (old new : Option (List ℕ)) → map (λ l. l.taken) lanes' ≡ map (λ l. l.taken) lanes
+pub wrote_still : (layout : Layout) (has : List Board → Type 0) (plan : Planned) (written : Written)
+    (lanes lanes' : List OutView) (t boards : ℕ) (old new : Option (List ℕ))
+    → map (λ l. l.taken) lanes' ≡ map (λ l. l.taken) lanes
     → WroteBeside layout has plan written lanes t boards old new → WroteBeside layout has plan written lanes' t boards old new
 wrote_still layout has plan Failed lanes lanes' t boards old new same h = gives_up_still layout plan lanes lanes' t boards old new same h
 wrote_still layout has plan Full lanes lanes' t boards old new same h = (goes_on_still layout plan lanes lanes' t boards old new same has h.0, h.1)
 wrote_still layout has plan Open lanes lanes' t boards old new same h = (goes_on_still layout plan lanes lanes' t boards old new same has h.0, h.1)
 
 -- all workers of a plan were joined
-module _ (layout : Layout) (has : List Board → Type 0) (plan : Planned) (form : Form) (n : ℕ) (lists : List (List Verdict)) (lanes : List OutView) (t boards : ℕ) (old new : Option (List ℕ)) (some : 0 < plan.workers) (all : n ≡ plan.workers) (le : t ≤ plan.count)
+module _ (layout : Layout) (has : List Board → Type 0) (plan : Planned) (form : Form) (n : ℕ)
+    (lists : List (List Verdict)) (lanes : List OutView) (t boards : ℕ) (old new : Option (List ℕ))
+    (some : 0 < plan.workers) (all : n ≡ plan.workers) (le : t ≤ plan.count)
     (owes : Owes plan form lists) where
-  parts : (s u : Option ℕ) → JoinedAs n lists lanes s u → ByNumber plan lanes (λ w l. l.settled ≡ true → IsPrefix (contents_of l) (verdicts_for plan form w))
+  parts : (s u : Option ℕ) → JoinedAs n lists lanes s u
+      → ByNumber plan lanes (λ w l. l.settled ≡ true → IsPrefix (contents_of l) (verdicts_for plan form w))
   parts s u joined = joined_parts plan form n lists lanes s u all owes joined
 
   settled_parts : (s : Option ℕ) → JoinedAs n lists lanes s None → AllParts plan form lanes
   settled_parts s joined w e lt =
       let settled = joined_settled plan form n lists lanes s None all owes joined refl w e lt in (settled, parts s None joined w e lt settled)
 
-  stands : (s u : Option ℕ) → WriterSoFar layout has plan lanes t boards old new → JoinedAs n lists lanes s u → StandsCompleteIn layout [] plan form lanes boards old new
+  stands : (s u : Option ℕ) → WriterSoFar layout has plan lanes t boards old new → JoinedAs n lists lanes s u
+      → StandsCompleteIn layout [] plan form lanes boards old new
   stands s u wrote joined = stand_complete layout has plan form lanes t boards old new some le wrote (parts s u joined)
 
   pub at_end : (written : Written) (s u : Option ℕ) → WroteBeside layout has plan written lanes t boards old new → JoinedAs n lists lanes s u
-      → MatchOption (cause_by written s u) (HasRest layout has plan form lanes t boards old new) (λ cause. InterruptedIn layout plan form cause lanes boards old new)
+      → MatchOption (cause_by written s u) (HasRest layout has plan form lanes t boards old new)
+      (λ cause. InterruptedIn layout plan form cause lanes boards old new)
   at_end Failed s u wrote joined = stands_broken layout plan form lanes t boards old new some le (parts s u joined) wrote
   at_end Full s None wrote joined = record {
     so_far = wrote.0;
@@ -59,7 +67,8 @@ module _ (layout : Layout) (has : List Board → Type 0) (plan : Planned) (form 
   }
   at_end Open None (Some w) wrote joined = (
     stands None (Some w) wrote.0 joined,
-    least_unclosed plan form n lists lanes None (Some w) all owes joined w boards refl wrote.0.in_turn.long (λ _. joined_whole plan form n lists lanes None (Some w) all owes joined refl),
+    least_unclosed plan form n lists lanes None (Some w) all owes joined w boards refl wrote.0.in_turn.long
+        (λ _. joined_whole plan form n lists lanes None (Some w) all owes joined refl),
   )
   at_end Open (Some w) u wrote joined = (
     stands (Some w) u wrote.0 joined,
@@ -68,15 +77,25 @@ module _ (layout : Layout) (has : List Board → Type 0) (plan : Planned) (form 
   )
 
 -- what follows once the workers of a writer were joined
-pub at_join : (layout now : Layout) (has : List Board → Type 0) (plan : Planned) (form : Form) (w : Writer) (n : ℕ) (lists : List (List Verdict)) (lanes : List OutView) (written : Written) (s u : Option ℕ) (cause : Option Cause) (old new : Option (List ℕ))
-    → now ≡ layout → w.plan ≡ plan → n ≡ plan.workers → Owes plan form lists → map (λ l. l.taken) lanes ≡ map (λ l. l.taken) w.lanes.items → WroteBeside layout has w.plan written w.lanes.items w.progress.taken w.progress.boards old new
+pub at_join : (layout now : Layout) (has : List Board → Type 0) (plan : Planned) (form : Form) (w : Writer) (n : ℕ)
+    (lists : List (List Verdict)) (lanes : List OutView) (written : Written) (s u : Option ℕ) (cause : Option Cause)
+    (old new : Option (List ℕ))
+    → now ≡ layout → w.plan ≡ plan → n ≡ plan.workers → Owes plan form lists
+    → map (λ l. l.taken) lanes ≡ map (λ l. l.taken) w.lanes.items
+    → WroteBeside layout has w.plan written w.lanes.items w.progress.taken w.progress.boards old new
     → JoinedAs n lists lanes s u → cause ≡ cause_by written s u
-    → MatchOption cause (HasRest now has w.plan form lanes w.progress.taken w.progress.boards old new) (λ cause. InterruptedIn layout plan form cause lanes w.progress.boards old new)
+    → MatchOption cause (HasRest now has w.plan form lanes w.progress.taken w.progress.boards old new)
+    (λ cause. InterruptedIn layout plan form cause lanes w.progress.boards old new)
 at_join layout now has plan form w n lists lanes written s u cause old new same plan_is all owes taken wrote joined cause_is =
-    subst (λ p. MatchOption cause (HasRest now has w.plan form lanes w.progress.taken w.progress.boards old new) (λ cause. InterruptedIn layout p form cause lanes w.progress.boards old new)) plan_is
-    (subst (λ l. MatchOption cause (HasRest l has w.plan form lanes w.progress.taken w.progress.boards old new) (λ cause. InterruptedIn layout w.plan form cause lanes w.progress.boards old new)) (sym same)
-    (subst (λ o. MatchOption o (HasRest layout has w.plan form lanes w.progress.taken w.progress.boards old new) (λ cause. InterruptedIn layout w.plan form cause lanes w.progress.boards old new)) (sym cause_is)
-    (at_end layout has w.plan form n lists lanes w.progress.taken w.progress.boards old new w.some (omega (arith, ap (λ p. p.workers) plan_is)) w.few (subst (λ p. Owes p form lists) (sym plan_is) owes) written s u
+    subst (λ p. MatchOption cause (HasRest now has w.plan form lanes w.progress.taken w.progress.boards old new)
+    (λ cause. InterruptedIn layout p form cause lanes w.progress.boards old new)) plan_is
+    (subst (λ l. MatchOption cause (HasRest l has w.plan form lanes w.progress.taken w.progress.boards old new)
+    (λ cause. InterruptedIn layout w.plan form cause lanes w.progress.boards old new)) (sym same)
+    (subst (λ o. MatchOption o (HasRest layout has w.plan form lanes w.progress.taken w.progress.boards old new)
+    (λ cause. InterruptedIn layout w.plan form cause lanes w.progress.boards old new)) (sym cause_is)
+    (at_end layout has w.plan form n lists lanes w.progress.taken w.progress.boards old new w.some
+    (omega (arith, ap (λ p. p.workers) plan_is)) w.few (subst (λ p. Owes p form lists) (sym plan_is) owes) written
+    s u
     (wrote_still layout has w.plan written w.lanes.items lanes w.progress.taken w.progress.boards old new taken wrote) joined)))
 
 -- what is said in an equal layout and of an equal plan

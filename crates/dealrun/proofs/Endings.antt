@@ -1,11 +1,14 @@
 -- From the lanes as they stand to the text of the candidates.
-use Rattle.std.proofs.Common.{◌≡◌, ◌≢◌, ℕ, zero, suc, ◌+◌, ◌*◌, ◌/◌, ◌%◌, ◌<◌, ◌≤◌, ◌⊎◌, true, false, List, [], ◌++◌, All, length, get_or, map, take, sum, Option, Some, refl, sym, ◌∙◌, ap, subst, arith, inl, inr, append_assoc, length-append, mul_comm}
+use Rattle.std.proofs.Common.{◌≡◌, ◌≢◌, ℕ, zero, suc, ◌+◌, ◌*◌, ◌/◌, ◌%◌, ◌<◌, ◌≤◌, ◌⊎◌, true, false, List, [], ◌++◌}
+use Rattle.std.proofs.Common.{All, length, get_or, map, take, sum, Option, Some, refl, sym, ◌∙◌, ap, subst, arith}
+use Rattle.std.proofs.Common.{inl, inr, append_assoc, length-append, mul_comm}
 use Rattle.std.specs.List.{range_with_len, cons_option, slice_get}
 use Rattle.std.specs.Option.{ForSome}
 use Rattle.std.proofs.lemmas.Grind.{common_steps}
 use Rattle.std.proofs.lemmas.List.{get_or-map, length-map, get_or-take, take_all, take-take, nil_from_length}
 use Rattle.std.proofs.Math.Seq.{take-append_seam}
-use Rattle.std.proofs.lemmas.List.FromFn.{fill_by_all, get_or-map-range_with_len, map-range_with_len_more, get_or-enumerate_from, length-enumerate_from}
+use Rattle.std.proofs.lemmas.List.FromFn.{fill_by_all, get_or-map-range_with_len, map-range_with_len_more}
+use Rattle.std.proofs.lemmas.List.FromFn.{get_or-enumerate_from, length-enumerate_from}
 use Rattle.std.proofs.lemmas.Option.{slice_get-get_or}
 use denote.RawPtr.{null_ptr}
 use Rattle.boards.specs.declared.board.Board.{Board}
@@ -53,24 +56,28 @@ pub no_lane : OutView
 no_lane = record { taken = []; known = 0; ring = record { words = null_ptr; slots = null_ptr; names = (0, (0, 0)) }; settled = false; left = [] }
 
 -- lanes of which a fact holds by their numbers
-pub each_lane : (P : ℕ → OutView → Type 0) (lanes : List OutView) → ((w : ℕ) (e : OutView) → w < length lanes → P w (get_or lanes w e)) → EachLane lanes P
+pub each_lane : (P : ℕ → OutView → Type 0) (lanes : List OutView)
+    → ((w : ℕ) (e : OutView) → w < length lanes → P w (get_or lanes w e)) → EachLane lanes P
 each_lane P lanes h k d lt =
     let short : k < length lanes = omega (arith, lt, length-enumerate_from 0 lanes) in
     let item = get_or-enumerate_from 0 lanes k d short in
     let number : 0 + k ≡ k = omega arith in
     subst (λ p. P p.0 p.1) (sym (item ∙ ap (λ n. (n, get_or lanes k d.1)) number)) (h k d.1 short)
 
-pub each_number : (plan : Planned) (P : ℕ → OutView → Type 0) (lanes : List OutView) → length lanes ≡ plan.workers → ByNumber plan lanes P → EachLane lanes P
+pub each_number : (plan : Planned) (P : ℕ → OutView → Type 0) (lanes : List OutView) → length lanes ≡ plan.workers
+    → ByNumber plan lanes P → EachLane lanes P
 each_number plan P lanes long h = each_lane P lanes (λ w e lt. h w e (omega (arith, lt, long)))
 
 -- the lists of what f gives for each lane, by their numbers
-pub for_each_lane : {A : Type 0} (plan : Planned) (f : OutView → A) (g : ℕ → A) (lanes : List OutView) → length lanes ≡ plan.workers → ByNumber plan lanes (λ w l. f l ≡ g w) → map f lanes ≡ for_each_worker plan g
+pub for_each_lane : {A : Type 0} (plan : Planned) (f : OutView → A) (g : ℕ → A) (lanes : List OutView)
+    → length lanes ≡ plan.workers → ByNumber plan lanes (λ w l. f l ≡ g w) → map f lanes ≡ for_each_worker plan g
 for_each_lane plan f g lanes long h =
     fill_by_all g (map f lanes) plan.workers (f no_lane) (simp length-map long)
     (λ k lt. get_or-map f lanes k no_lane (f no_lane) (omega (arith, lt, long)) ∙ h k no_lane lt)
 
 -- the lanes were taken in turn, as lists
-turns_as_lists : (plan : Planned) (lanes : List OutView) (m : ℕ) → TakenInTurn plan lanes m → map (λ l. length l.taken) lanes ≡ for_each_worker plan (λ w. turns plan.workers w m)
+turns_as_lists : (plan : Planned) (lanes : List OutView) (m : ℕ) → TakenInTurn plan lanes m
+    → map (λ l. length l.taken) lanes ≡ for_each_worker plan (λ w. turns plan.workers w m)
 turns_as_lists plan lanes m h = for_each_lane plan (λ l. length l.taken) (λ w. turns plan.workers w m) lanes h.long h.turns_are
 
 -- in all as many were taken as there were turns
@@ -86,14 +93,16 @@ module _ (plan : Planned) (form : Form) (lanes : List OutView) (t : ℕ) (some :
   at_lane w lt = get_or-map (λ (l : OutView). l.taken) lanes w no_lane [] (omega (arith, lt, h.long))
 
   -- item k of a beginning of the worker's verdicts
-  item : (xs : List Verdict) (w k : ℕ) → w < plan.workers → IsPrefix xs (verdicts_for plan form w) → k < length xs → k < turns plan.workers w plan.count
+  item : (xs : List Verdict) (w k : ℕ) → w < plan.workers → IsPrefix xs (verdicts_for plan form w) → k < length xs
+      → k < turns plan.workers w plan.count
       → slice_get xs k ≡ Some (at (w + k * plan.workers))
   item xs w k lt part here there =
       let d : Verdict = at 0 in
       slice_get-get_or xs k d here ∙ ap (λ x. Some x)
       (ap (λ ys. get_or ys k d) part ∙ get_or-take (length xs) (verdicts_for plan form w) k d here
       ∙ ap (λ ys. get_or ys k d) (verdicts-are (candidate_of plan) plan.first plan.count form plan.workers w lt)
-      ∙ get_or-map-range_with_len (λ i. verdict_of (candidate_of plan) form (plan.first + (w + i * plan.workers))) 0 (turns plan.workers w plan.count) k k d there (omega arith))
+      ∙ get_or-map-range_with_len (λ i. verdict_of (candidate_of plan) form (plan.first + (w + i * plan.workers))) 0
+      (turns plan.workers w plan.count) k k d there (omega arith))
 
   at_turn_is : (i : ℕ) → i < t → at_turn plan.workers (taken_lists lanes) i ≡ Some (at i)
   at_turn_is i lt =
@@ -107,14 +116,16 @@ module _ (plan : Planned) (form : Form) (lanes : List OutView) (t : ℕ) (some :
       let turned : plan.workers * (i / plan.workers) ≡ i / plan.workers * plan.workers = mul_comm plan.workers (i / plan.workers) in
       let whole : i % plan.workers + i / plan.workers * plan.workers ≡ i = omega arith in
       ap (λ xs. slice_get xs (i / plan.workers)) (at_lane w rem)
-      ∙ item (get_or lanes w no_lane).taken w (i / plan.workers) rem (parts w no_lane rem) (omega (arith, here, k_is, long)) (omega (arith, there, k_is))
+      ∙ item (get_or lanes w no_lane).taken w (i / plan.workers) rem (parts w no_lane rem)
+      (omega (arith, here, k_is, long)) (omega (arith, there, k_is))
       ∙ ap (λ n. Some (at n)) whole
 
   recovers : (m : ℕ) → m ≤ t → in_turn plan.workers (taken_lists lanes) m ≡ map at (range_with_len 0 m)
   recovers zero le' = in_turn-none plan.workers (taken_lists lanes)
   recovers (suc m) le' =
       let e : suc m ≡ m + 1 = omega arith in
-      in_turn-more plan.workers (taken_lists lanes) m ∙ ap (λ vs. vs ++ cons_option (at_turn plan.workers (taken_lists lanes) m) []) (recovers m (omega arith))
+      in_turn-more plan.workers (taken_lists lanes) m ∙ ap
+      (λ vs. vs ++ cons_option (at_turn plan.workers (taken_lists lanes) m) []) (recovers m (omega arith))
       ∙ ap (λ o. map at (range_with_len 0 m) ++ cons_option o []) (at_turn_is m (omega arith))
       ∙ sym (ap (λ n. map at (range_with_len 0 n)) e ∙ map-range_with_len_more at 0 m m (omega arith))
 
@@ -124,11 +135,15 @@ module _ (plan : Planned) (form : Form) (lanes : List OutView) (t : ℕ) (some :
   pub count_taken : (m : ℕ) → m ≤ t → board_count plan (taken_lists lanes) m ≡ length (accepted_among (candidate_of plan) plan.first form m)
   count_taken m le' = ap length (taken_boards m le') ∙ length-boards_of plan (accepted_among (candidate_of plan) plan.first form m)
 
-  pub short_candidates : StaysShort plan lanes t → (i : ℕ) → i < t → ForSome plan.limit (λ most. length (accepted_among (candidate_of plan) plan.first form i) < most)
-  short_candidates short i lt most is = let less : board_count plan (taken_lists lanes) i < most = short i lt most is in omega (arith, less, count_taken i (omega arith))
+  pub short_candidates : StaysShort plan lanes t → (i : ℕ) → i < t
+      → ForSome plan.limit (λ most. length (accepted_among (candidate_of plan) plan.first form i) < most)
+  short_candidates short i lt most is = let less : board_count plan (taken_lists lanes) i < most =
+      short i lt most is in omega (arith, less, count_taken i (omega arith))
 
   -- as many as were needed, and the text of all
-  module _ (layout : Layout) (boards : ℕ) (old new : Option (List ℕ)) (written : WroteTaken layout plan lanes t boards old new) (within : ForSome plan.limit (λ most. boards ≤ most)) (short : StaysShort plan lanes t)
+  module _ (layout : Layout) (boards : ℕ) (old new : Option (List ℕ))
+      (written : WroteTaken layout plan lanes t boards old new) (within : ForSome plan.limit (λ most. boards ≤ most))
+      (short : StaysShort plan lanes t)
       (ended : (t ≡ plan.count) ⊎ (plan.limit ≡ Some boards)) where
     boards_here : boards ≡ length (accepted_among (candidate_of plan) plan.first form t)
     boards_here = written.boards_are ∙ count_taken t (omega arith)
@@ -146,53 +161,68 @@ module _ (plan : Planned) (form : Form) (lanes : List OutView) (t : ℕ) (some :
     accepted_is = accepted_here plan form t le within_here ended_here
 
     pub whole_text : new ≡ append_known old (text_of layout plan (accepted plan form))
-    whole_text = written.bytes_are ∙ ap (append_known old) (ap (text_of_boards layout) (taken_boards t (omega arith)) ∙ ap (text_of layout plan) (sym accepted_is))
+    whole_text = written.bytes_are ∙ ap (append_known old)
+        (ap (text_of_boards layout) (taken_boards t (omega arith)) ∙ ap (text_of layout plan) (sym accepted_is))
 
     pub all_boards : boards ≡ length (accepted plan form)
     all_boards = boards_here ∙ ap length (sym accepted_is)
 
 -- the accepted deals are partitions, as every candidate is
 partitions : (plan : Planned) (form : Form) → IsFixed plan.fixed → All IsPartition (map (candidate_of plan) (accepted plan form))
-partitions plan form fits = All-map IsPartition (candidate_of plan) (accepted plan form) (λ k d lt. around_is_partition plan.fixed (state_before plan.seed (get_or (accepted plan form) k d)) fits)
+partitions plan form fits = All-map IsPartition (candidate_of plan) (accepted plan form)
+    (λ k d lt. around_is_partition plan.fixed (state_before plan.seed (get_or (accepted plan form) k d)) fits)
 
 -- what stands when the lanes were taken in turn and each settled one holds a beginning
-pub stand : (plan : Planned) (form : Form) (lanes : List OutView) (t : ℕ) → 0 < plan.workers → t ≤ plan.count → TakenInTurn plan lanes t → StaysShort plan lanes t
+pub stand : (plan : Planned) (form : Form) (lanes : List OutView) (t : ℕ) → 0 < plan.workers → t ≤ plan.count
+    → TakenInTurn plan lanes t → StaysShort plan lanes t
     → ByNumber plan lanes (λ w l. l.settled ≡ true → IsPrefix (contents_of l) (verdicts_for plan form w)) → AreLanesConsistent plan form lanes
 stand plan form lanes t some le h short parts =
     let total = taken_total plan lanes t some h in
     let fronts : AllSettled lanes → ByNumber plan lanes (λ w l. IsPrefix l.taken (verdicts_for plan form w)) =
-    λ all w e lt. prefix_front (get_or lanes w e).taken (get_or lanes w e).left (verdicts_for plan form w) (parts w e lt (all w e (omega (arith, lt, h.long)))) in
+    λ all w e lt. prefix_front (get_or lanes w e).taken (get_or lanes w e).left (verdicts_for plan form w)
+    (parts w e lt (all w e (omega (arith, lt, h.long)))) in
     record {
       in_turn = turns_as_lists plan lanes (taken_in_all lanes) (subst (TakenInTurn plan lanes) (sym total) h);
       parts = each_number plan (λ w l. l.settled ≡ true → IsPrefix (contents_of l) (verdicts_for plan form w)) lanes h.long parts;
-      needed = λ all. subst (λ m. m ≤ end_of plan form) (sym total) (needed_here plan form t le (short_candidates plan form lanes t some le h (fronts all) short));
+      needed = λ all. subst (λ m. m ≤ end_of plan form) (sym total)
+          (needed_here plan form t le (short_candidates plan form lanes t some le h (fronts all) short));
       candidates = λ all m le'. taken_boards plan form lanes t some le h (fronts all) m (omega (arith, le', total));
     }
 
 -- what was taken was written, and what closes it
-stand_closed : (layout : Layout) (closing : List ℕ) (plan : Planned) (form : Form) (lanes : List OutView) (m boards : ℕ) (old mid new : Option (List ℕ)) → taken_in_all lanes ≡ m → AreLanesConsistent plan form lanes
+stand_closed : (layout : Layout) (closing : List ℕ) (plan : Planned) (form : Form) (lanes : List OutView)
+    (m boards : ℕ) (old mid new : Option (List ℕ)) → taken_in_all lanes ≡ m → AreLanesConsistent plan form lanes
     → WroteTaken layout plan lanes m boards old mid → new ≡ append_known mid closing → StandsCompleteIn layout closing plan form lanes boards old new
 stand_closed layout closing plan form lanes m boards old mid new total lanes_are h is =
     let all = subst (λ n. WroteTaken layout plan lanes n boards old mid) (sym total) h in record {
       lanes_are = lanes_are;
-      bytes_are = is ∙ ap (λ o. append_known o closing) all.bytes_are ∙ append_known-append old (printed layout plan (taken_lists lanes) (taken_in_all lanes)) closing;
+      bytes_are = is ∙ ap (λ o. append_known o closing) all.bytes_are
+          ∙ append_known-append old (printed layout plan (taken_lists lanes) (taken_in_all lanes)) closing;
       boards_are = all.boards_are;
     }
 
-pub stand_complete : (layout : Layout) (has : List Board → Type 0) (plan : Planned) (form : Form) (lanes : List OutView) (t boards : ℕ) (old new : Option (List ℕ)) → 0 < plan.workers → t ≤ plan.count → WriterSoFar layout has plan lanes t boards old new
-    → ByNumber plan lanes (λ w l. l.settled ≡ true → IsPrefix (contents_of l) (verdicts_for plan form w)) → StandsCompleteIn layout [] plan form lanes boards old new
+pub stand_complete : (layout : Layout) (has : List Board → Type 0) (plan : Planned) (form : Form)
+    (lanes : List OutView) (t boards : ℕ) (old new : Option (List ℕ)) → 0 < plan.workers → t ≤ plan.count
+    → WriterSoFar layout has plan lanes t boards old new
+    → ByNumber plan lanes (λ w l. l.settled ≡ true → IsPrefix (contents_of l) (verdicts_for plan form w))
+    → StandsCompleteIn layout [] plan form lanes boards old new
 stand_complete layout has plan form lanes t boards old new some le h parts =
-    stand_closed layout [] plan form lanes t boards old new new (taken_total plan lanes t some h.in_turn) (stand plan form lanes t some le h.in_turn h.short parts) h.written (sym (append_known-nil new))
+    stand_closed layout [] plan form lanes t boards old new new (taken_total plan lanes t some h.in_turn)
+    (stand plan form lanes t some le h.in_turn h.short parts) h.written (sym (append_known-nil new))
 
 -- a lane whose worker's verdicts were all taken, as many as were sent
-whole_lane : (plan : Planned) (form : Form) (l : OutView) (w : ℕ) → IsPrefix l.taken (verdicts_for plan form w) → IsPrefix (contents_of l) (verdicts_for plan form w) → length l.taken ≡ length (verdicts_for plan form w) → (l.taken ≡ verdicts_for plan form w) × (l.left ≡ [])
+whole_lane : (plan : Planned) (form : Form) (l : OutView) (w : ℕ) → IsPrefix l.taken (verdicts_for plan form w)
+    → IsPrefix (contents_of l) (verdicts_for plan form w) → length l.taken ≡ length (verdicts_for plan form w)
+    → (l.taken ≡ verdicts_for plan form w) × (l.left ≡ [])
 whole_lane plan form l w front sent same =
     let short = prefix_short (contents_of l) (verdicts_for plan form w) sent in
     let none : length l.left ≡ 0 = omega (arith, short, same, length-append l.taken l.left) in
     (front ∙ take_all (length l.taken) (verdicts_for plan form w) (omega (arith, same)), nil_from_length l.left none)
 
 -- a run that took what was needed, and what follows its boards
-module _ (layout : Layout) (has : List Board → Type 0) (plan : Planned) (form : Form) (lanes : List OutView) (t boards : ℕ) (old mid : Option (List ℕ)) (some : 0 < plan.workers) (le : t ≤ plan.count) (h : WriterSoFar layout has plan lanes t boards old mid)
+module _ (layout : Layout) (has : List Board → Type 0) (plan : Planned) (form : Form) (lanes : List OutView)
+    (t boards : ℕ) (old mid : Option (List ℕ)) (some : 0 < plan.workers) (le : t ≤ plan.count)
+    (h : WriterSoFar layout has plan lanes t boards old mid)
     (parts : AllParts plan form lanes) (ended : (t ≡ plan.count) ⊎ (plan.limit ≡ Some boards)) where
   long : length lanes ≡ plan.workers
   long = h.in_turn.long
@@ -212,7 +242,8 @@ module _ (layout : Layout) (has : List Board → Type 0) (plan : Planned) (form 
   whole : plan.limit ≢ Some boards → ByNumber plan lanes (λ w l. (l.taken ≡ verdicts_for plan form w) × (l.left ≡ []))
   whole less w e lt =
       whole_lane plan form (get_or lanes w e) w (fronts w e lt) (sent w e lt)
-      (h.in_turn.turns_are w e lt ∙ ap (turns plan.workers w) (all_needed less) ∙ sym (length-verdicts (candidate_of plan) plan.first plan.count form plan.workers w))
+      (h.in_turn.turns_are w e lt ∙ ap (turns plan.workers w) (all_needed less)
+      ∙ sym (length-verdicts (candidate_of plan) plan.first plan.count form plan.workers w))
 
   lanes_complete : TakesWhatIsOwed plan form lanes boards
   lanes_complete = record {
@@ -244,7 +275,9 @@ module _ (layout : Layout) (has : List Board → Type 0) (plan : Planned) (form 
 
   -- what was taken are the boards of the whole text, and all that is needed
   boards_all : boards_taken plan lanes t ≡ boards_of plan (accepted plan form)
-  boards_all = taken_boards plan form lanes t some le h.in_turn fronts t (omega arith) ∙ ap (boards_of plan) (sym (accepted_is plan form lanes t some le h.in_turn fronts layout boards old mid h.written h.within h.short ended))
+  boards_all = taken_boards plan form lanes t some le h.in_turn fronts t (omega arith)
+      ∙ ap (boards_of plan) (sym (accepted_is plan form lanes t some le h.in_turn fronts layout boards old mid
+      h.written h.within h.short ended))
 
   abbrev foot : List ℕ
   foot = layout.footer (boards_taken plan lanes t) t
@@ -261,7 +294,9 @@ module _ (layout : Layout) (has : List Board → Type 0) (plan : Planned) (form 
           boards_are = boards_counted;
           partitions = partitions plan form fits;
         };
-        stands = stand_closed layout (footer_taken layout plan lanes) plan form lanes t boards old mid new total consistent h.written (is ∙ ap (λ m. append_known mid (layout.footer (boards_taken plan lanes m) m)) (sym total));
+        stands = stand_closed layout (footer_taken layout plan lanes) plan form lanes t boards old mid new total
+            consistent h.written (is ∙ ap (λ m. append_known mid (layout.footer (boards_taken plan lanes m) m))
+            (sym total));
         candidates_are = sym end_is;
         few = (few, le);
       }

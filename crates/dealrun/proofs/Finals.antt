@@ -1,5 +1,6 @@
 -- From the joins and the writer to what a run promises.
-use Rattle.std.proofs.Common.{◌≡◌, ◌≢◌, ◌<◌, ◌≤◌, ◌-◌, ◌⊎◌, ◌++◌, ℕ, true, false, List, [], All, map, take, length, get_or, Option, None, Some, arith, ap, ◌∙◌, sym, subst, refl, inl, inr}
+use Rattle.std.proofs.Common.{◌≡◌, ◌≢◌, ◌<◌, ◌≤◌, ◌-◌, ◌⊎◌, ◌++◌, ℕ, true, false, List, [], All, map, take, length}
+use Rattle.std.proofs.Common.{get_or, Option, None, Some, arith, ap, ◌∙◌, sym, subst, refl, inl, inr}
 use Rattle.std.proofs.lemmas.Bool.{cases_lt, both_ways}
 use Rattle.std.proofs.lemmas.List.{get_or-map, length-map, get_or-take, take_all}
 use Rattle.std.proofs.lemmas.List.FromFn.{get_or-map-range_with_len}
@@ -23,13 +24,15 @@ use Rattle.dealrun.proofs.Advance.{fresh_turns}
 use Rattle.dealrun.proofs.Endings.{taken_total, stand, each_number, each_lane, no_lane}
 
 -- lists that f cannot tell apart have elements that it cannot tell apart
-pub same_at : {A B : Type 0} (f : A → B) (xs ys : List A) (k : ℕ) (d : A) → map f xs ≡ map f ys → k < length ys → f (get_or xs k d) ≡ f (get_or ys k d)
+pub same_at : {A B : Type 0} (f : A → B) (xs ys : List A) (k : ℕ) (d : A) → map f xs ≡ map f ys → k < length ys
+    → f (get_or xs k d) ≡ f (get_or ys k d)
 same_at f xs ys k d is short =
     let lens : length xs ≡ length ys = simp length-map at (ap length is) in
     sym (get_or-map f xs k d (f d) (omega arith)) ∙ (ap (λ zs. get_or zs k (f d)) is ∙ get_or-map f ys k d (f d) short)
 
 -- lanes from which the same was taken
-module _ (layout : Layout) (plan : Planned) (lanes lanes' : List OutView) (t boards : ℕ) (old new : Option (List ℕ)) (same : map (λ l. l.taken) lanes' ≡ map (λ l. l.taken) lanes) where
+module _ (layout : Layout) (plan : Planned) (lanes lanes' : List OutView) (t boards : ℕ) (old new : Option (List ℕ))
+    (same : map (λ l. l.taken) lanes' ≡ map (λ l. l.taken) lanes) where
   in_turn_still : TakenInTurn plan lanes t → TakenInTurn plan lanes' t
   in_turn_still h =
       let lens : length lanes' ≡ length lanes = simp length-map at (ap length same) in record {
@@ -40,7 +43,8 @@ module _ (layout : Layout) (plan : Planned) (lanes lanes' : List OutView) (t boa
   short_still : StaysShort plan lanes t → StaysShort plan lanes' t
   short_still h i lt most is = subst (λ ls. board_count plan ls i < most) (sym same) (h i lt most is)
 
-  pub goes_on_still : (has : List Board → Type 0) → WriterSoFar layout has plan lanes t boards old new → WriterSoFar layout has plan lanes' t boards old new
+  pub goes_on_still : (has : List Board → Type 0) → WriterSoFar layout has plan lanes t boards old new
+      → WriterSoFar layout has plan lanes' t boards old new
   goes_on_still has h = record {
     in_turn = in_turn_still h.in_turn;
     written = record {
@@ -71,14 +75,18 @@ module _ (layout : Layout) (plan : Planned) (lanes lanes' : List OutView) (t boa
       }
 
 -- what the k-th worker owes
-owed_at : (plan : Planned) (form : Form) (lists : List (List Verdict)) (k : ℕ) (d : List Verdict) → Owes plan form lists → k < plan.workers → get_or lists k d ≡ verdicts_for plan form k
-owed_at plan form lists k d owes lt = ap (λ ls. get_or ls k d) owes ∙ get_or-map-range_with_len (verdicts_for plan form) 0 plan.workers k k d lt (omega arith)
+owed_at : (plan : Planned) (form : Form) (lists : List (List Verdict)) (k : ℕ) (d : List Verdict)
+    → Owes plan form lists → k < plan.workers → get_or lists k d ≡ verdicts_for plan form k
+owed_at plan form lists k d owes lt = ap (λ ls. get_or ls k d) owes
+    ∙ get_or-map-range_with_len (verdicts_for plan form) 0 plan.workers k k d lt (omega arith)
 
 -- all workers of a plan were joined
-module _ (plan : Planned) (form : Form) (n : ℕ) (lists : List (List Verdict)) (lanes : List OutView) (s u : Option ℕ) (all : n ≡ plan.workers) (owes : Owes plan form lists)
+module _ (plan : Planned) (form : Form) (n : ℕ) (lists : List (List Verdict)) (lanes : List OutView) (s u : Option ℕ)
+    (all : n ≡ plan.workers) (owes : Owes plan form lists)
     (joined : JoinedAs n lists lanes s u) where
   pub joined_parts : ByNumber plan lanes (λ w l. l.settled ≡ true → IsPrefix (contents_of l) (verdicts_for plan form w))
-  joined_parts w e lt settled = subst (IsPrefix (contents_of (get_or lanes w e))) (owed_at plan form lists w [] owes lt) (joined.parts w [] e (omega (arith, lt, all)) settled)
+  joined_parts w e lt settled = subst (IsPrefix (contents_of (get_or lanes w e)))
+      (owed_at plan form lists w [] owes lt) (joined.parts w [] e (omega (arith, lt, all)) settled)
 
   pub joined_settled : u ≡ None → ByNumber plan lanes (λ w l. l.settled ≡ true)
   joined_settled none w e lt =
@@ -105,7 +113,9 @@ module _ (plan : Planned) (form : Form) (n : ℕ) (lists : List (List Verdict)) 
             (λ v e inside less settled. h.1 v [] e less settled ∙ owed_at plan form lists v [] owes (omega (arith, less, lt)));
       }
 
-  pub least_unclosed : (w boards : ℕ) → u ≡ Some w → length lanes ≡ plan.workers → (plan.limit ≢ Some boards → ByNumber plan lanes (λ v l. l.settled ≡ true → contents_of l ≡ verdicts_for plan form v)) → IsLeastUnclosed plan form lanes w boards
+  pub least_unclosed : (w boards : ℕ) → u ≡ Some w → length lanes ≡ plan.workers
+      → (plan.limit ≢ Some boards → ByNumber plan lanes (λ v l. l.settled ≡ true
+      → contents_of l ≡ verdicts_for plan form v)) → IsLeastUnclosed plan form lanes w boards
   least_unclosed w boards is long whole =
       let h : (w < n) × Below IsSettled w lists lanes × UnsettledAt w lanes = MatchOption-at_some _ _ w is joined.unclosed_is in
       let lt : w < plan.workers = omega (arith, h.0, all) in
@@ -118,21 +128,31 @@ module _ (plan : Planned) (form : Form) (n : ℕ) (lists : List (List Verdict)) 
       }
 
 -- a text that was broken off, with the number of all that was taken
-pub stands_broken : (layout : Layout) (plan : Planned) (form : Form) (lanes : List OutView) (t boards : ℕ) (old new : Option (List ℕ)) → 0 < plan.workers → t ≤ plan.count
+pub stands_broken : (layout : Layout) (plan : Planned) (form : Form) (lanes : List OutView) (t boards : ℕ)
+    (old new : Option (List ℕ)) → 0 < plan.workers → t ≤ plan.count
     → ByNumber plan lanes (λ w l. l.settled ≡ true → IsPrefix (contents_of l) (verdicts_for plan form w))
-    → WriterBrokeOff layout plan lanes t boards old new → AreLanesConsistent plan form lanes × (BreaksOffLastPiece layout plan lanes (taken_in_all lanes) boards old new ⊎ BreaksOffFooter layout plan form lanes boards old new)
+    → WriterBrokeOff layout plan lanes t boards old new → AreLanesConsistent plan form lanes
+    × (BreaksOffLastPiece layout plan lanes (taken_in_all lanes) boards old new
+    ⊎ BreaksOffFooter layout plan form lanes boards old new)
 stands_broken layout plan form lanes t boards old new some le parts h =
-    let total = taken_total plan lanes t some h.in_turn in
-    (stand plan form lanes t some le h.in_turn h.short parts, inl (subst (λ m. BreaksOffLastPiece layout plan lanes m boards old new) (sym total) h.broken))
+    let total = taken_total plan lanes t some h.in_turn in (
+      stand plan form lanes t some le h.in_turn h.short parts,
+      inl (subst (λ m. BreaksOffLastPiece layout plan lanes m boards old new) (sym total) h.broken),
+    )
 
 -- a thread could not be started, when n were
-pub not_started : (layout : Layout) (plan : Planned) (form : Form) (n : ℕ) (lists all : List (List Verdict)) (idle lanes : List OutView) (s u : Option ℕ) (old : Option (List ℕ)) → 0 < plan.workers → length lanes ≡ plan.workers → n < plan.workers
-    → Owes plan form all → lists ≡ take n all → JoinedAs n lists lanes s u → ((k : ℕ) (e : OutView) → n ≤ k → k < length lanes → (get_or lanes k e).settled ≡ false)
-    → map (λ l. l.taken) lanes ≡ map (λ l. l.taken) idle → All (λ l. (l.taken ≡ []) × (l.settled ≡ false)) idle → InterruptedIn layout plan form Spawn lanes 0 old old
+pub not_started : (layout : Layout) (plan : Planned) (form : Form) (n : ℕ) (lists all : List (List Verdict))
+    (idle lanes : List OutView) (s u : Option ℕ) (old : Option (List ℕ)) → 0 < plan.workers
+    → length lanes ≡ plan.workers → n < plan.workers
+    → Owes plan form all → lists ≡ take n all → JoinedAs n lists lanes s u
+    → ((k : ℕ) (e : OutView) → n ≤ k → k < length lanes → (get_or lanes k e).settled ≡ false)
+    → map (λ l. l.taken) lanes ≡ map (λ l. l.taken) idle → All (λ l. (l.taken ≡ []) × (l.settled ≡ false)) idle
+    → InterruptedIn layout plan form Spawn lanes 0 old old
 not_started layout plan form n lists all idle lanes s u old some long few owes some_of joined rest same fresh =
     let lens : length lanes ≡ length idle = simp length-map at (ap length same) in
     let none : All (λ l. l.taken ≡ []) lanes =
-    λ w e lt. let short : w < length idle = omega (arith, lt, lens) in same_at (λ (l : OutView). l.taken) lanes idle w e same short ∙ (fresh w e short).0 in
+    λ w e lt. let short : w < length idle = omega (arith, lt, lens) in
+    same_at (λ (l : OutView). l.taken) lanes idle w e same short ∙ (fresh w e short).0 in
     let in_turn = fresh_turns plan lanes long none in
     let total = taken_total plan lanes 0 some in_turn in (
       stand plan form lanes 0 some (omega arith) in_turn (λ i lt. absurd (omega arith)) parts,
@@ -152,11 +172,13 @@ not_started layout plan form n lists all idle lanes s u old some long few owes s
     parts w e lt settled =
         elim (cases_lt w n) [
           | inl started ↦
-              let mine : get_or lists w [] ≡ verdicts_for plan form w = ap (λ ls. get_or ls w []) some_of ∙ get_or-take n all w [] started ∙ owed_at plan form all w [] owes lt in
+              let mine : get_or lists w [] ≡ verdicts_for plan form w = ap (λ ls. get_or ls w []) some_of
+              ∙ get_or-take n all w [] started ∙ owed_at plan form all w [] owes lt in
               subst (IsPrefix (contents_of (get_or lanes w e))) mine (joined.parts w [] e started settled)
           | inr not_so ↦ absurd (both_ways _ (rest w e not_so (omega (arith, lt, long))) settled)
         ]
 
 -- all workers were started: their handles owe what the plan's workers owe
-pub all_owe : (plan : Planned) (form : Form) (n : ℕ) (lists all : List (List Verdict)) → lists ≡ take n all → n ≡ length all → Owes plan form all → Owes plan form lists
+pub all_owe : (plan : Planned) (form : Form) (n : ℕ) (lists all : List (List Verdict)) → lists ≡ take n all
+    → n ≡ length all → Owes plan form all → Owes plan form lists
 all_owe plan form n lists all some whole owes = some ∙ take_all n all (omega (arith, whole)) ∙ owes

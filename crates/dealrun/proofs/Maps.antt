@@ -3,7 +3,8 @@ use Rattle.std.proofs.Common.{◌≡◌, zero, suc, List, [], ◌∷◌, ◌++�
 use Rattle.std.proofs.lemmas.List.{map-append}
 use Rattle.std.proofs.lemmas.List.Elements.{All-append}
 
-pub map_snoc : {A B : Type 0} (f : A → B) (xs ys : List A) (x : A) (zs : List B) (z : B) → ys ≡ xs ++ x ∷ [] → map f xs ≡ zs → f x ≡ z → map f ys ≡ zs ++ z ∷ []
+pub map_snoc : {A B : Type 0} (f : A → B) (xs ys : List A) (x : A) (zs : List B) (z : B) → ys ≡ xs ++ x ∷ []
+    → map f xs ≡ zs → f x ≡ z → map f ys ≡ zs ++ z ∷ []
 map_snoc f xs ys x zs z grown before one = ap (map f) grown ∙ (map-append f xs (x ∷ []) ∙ cc)
 
 all_one : {A : Type 0} (P : A → Type 0) (x : A) → P x → All P (x ∷ [])

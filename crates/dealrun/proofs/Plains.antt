@@ -25,7 +25,8 @@ pub same_deal : (plan : Planned) → IsPlain plan → (k : ℕ) → candidate_of
 same_deal plan is k = ap (λ fixed. candidate_around fixed plan.seed k) is.fixed_are ∙ around_nothing plan.seed k
 
 -- of the same deals the same are accepted
-same_accepted : (d e : ℕ → List Seat) (first : ℕ) (form : Form) (n : ℕ) → ((k : ℕ) → d k ≡ e k) → accepted_among d first form n ≡ accepted_among e first form n
+same_accepted : (d e : ℕ → List Seat) (first : ℕ) (form : Form) (n : ℕ) → ((k : ℕ) → d k ≡ e k)
+    → accepted_among d first form n ≡ accepted_among e first form n
 unfolding accepted_among
 same_accepted d e first form n same = each (range_with_len first n)
   where
@@ -56,7 +57,8 @@ needs plan form is = by plan.limit
 
     by : (limit : Option ℕ) → end_of (record plan { limit = limit }) form ≡ needed_by (candidate plan.seed) (record plan { limit = limit }) form
     by None = refl
-    by (Some most) = same_place (accepted_among (candidate_of plan) plan.first form) (accepted_among (candidate plan.seed) plan.first form) most same (range_with_len 0 plan.count)
+    by (Some most) = same_place (accepted_among (candidate_of plan) plan.first form)
+        (accepted_among (candidate plan.seed) plan.first form) most same (range_with_len 0 plan.count)
 
 -- a board of Law 2 is printed as its game
 as_game : (heading : HeadingView) (number k : ℕ) (deal : List Seat) → game_text heading (board_by_law number k deal) ≡ game number heading deal
@@ -67,7 +69,9 @@ pub by_law_is : (plan : Planned) → IsPlain plan → (number k : ℕ) (deal : L
 unfolding board_in
 by_law_is plan is number k deal = ap (λ s. board_in s number k deal) is.setting_is
 
-one_game : (plan : Planned) → IsPlain plan → (n k : ℕ) → game_text plan.heading (board_of plan n k (candidate_of plan k)) ≡ game (plan.first_board + n) plan.heading (candidate plan.seed k)
+one_game : (plan : Planned) → IsPlain plan → (n k : ℕ)
+    → game_text plan.heading (board_of plan n k (candidate_of plan k)) ≡ game (plan.first_board + n) plan.heading
+    (candidate plan.seed k)
 one_game plan is n k =
     ap (game_text plan.heading) (by_law_is plan is (plan.first_board + n) k (candidate_of plan k))
     ∙ as_game plan.heading (plan.first_board + n) k (candidate_of plan k)
@@ -84,14 +88,17 @@ games plan is numbers = from 0 numbers
         ≡ flat_map (λ p. game (plan.first_board + p.0) plan.heading (candidate plan.seed p.1)) (enumerate_from n xs)
     from n [] = refl
     from n (x ∷ xs) =
-        ap (λ t. t ++ flat_map (game_text plan.heading) (map (λ p. board_of plan p.0 p.1 (candidate_of plan p.1)) (enumerate_from (n + 1) xs))) (one_game plan is n x)
+        ap (λ t. t ++ flat_map (game_text plan.heading) (map (λ p. board_of plan p.0 p.1 (candidate_of plan p.1))
+        (enumerate_from (n + 1) xs))) (one_game plan is n x)
         ∙ ap (λ t. game (plan.first_board + n) plan.heading (candidate plan.seed x) ++ t) (from (n + 1) xs)
 
 pub writes : (plan : Planned) (form : Form) → IsPlain plan → text plan form ≡ plain_text plan form
 writes plan form is =
     append-nil (text_of (pbn plan.heading) plan (accepted plan form))
     ∙ ap (λ t. header ++ t) (games plan is (accepted plan form)
-    ∙ ap (λ numbers. flat_map (λ p. game (plan.first_board + p.0) plan.heading (candidate plan.seed p.1)) (enumerate_from 0 numbers)) (accepts plan form is))
+    ∙ ap (λ numbers. flat_map (λ p. game (plan.first_board + p.0) plan.heading (candidate plan.seed p.1))
+    (enumerate_from 0 numbers)) (accepts plan form is))
 
-pub owes : (plan : Planned) (form : Form) (w : ℕ) → IsPlain plan → verdicts_for plan form w ≡ verdicts (candidate plan.seed) plan.first plan.count form plan.workers w
+pub owes : (plan : Planned) (form : Form) (w : ℕ) → IsPlain plan
+    → verdicts_for plan form w ≡ verdicts (candidate plan.seed) plan.first plan.count form plan.workers w
 owes plan form w is = same_verdicts (candidate_of plan) (candidate plan.seed) plan.first plan.count form plan.workers w (same_deal plan is)

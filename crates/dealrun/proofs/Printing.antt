@@ -1,5 +1,6 @@
 -- Lists that are gone through in turn, as they grow.
-use Rattle.std.proofs.Common.{◌≡◌, ℕ, zero, suc, ◌+◌, ◌/◌, ◌%◌, ◌<◌, ◌≤◌, List, [], ◌∷◌, ◌++◌, length, get_or, set, Some, refl, sym, ◌∙◌, ap, arith, inl, inr, length-append}
+use Rattle.std.proofs.Common.{◌≡◌, ℕ, zero, suc, ◌+◌, ◌/◌, ◌%◌, ◌<◌, ◌≤◌, List, [], ◌∷◌, ◌++◌, length, get_or, set}
+use Rattle.std.proofs.Common.{Some, refl, sym, ◌∙◌, ap, arith, inl, inr, length-append}
 use Rattle.std.specs.List.{range_with_len, filter_map, cons_option, slice_get}
 use Rattle.std.proofs.lemmas.Bool.{cases_eq}
 use Rattle.std.proofs.lemmas.List.{get_or-set_same, get_or-set_other}
@@ -20,7 +21,8 @@ pub in_turn-more : (W : ℕ) (lists : List (List Verdict)) (m : ℕ) → in_turn
 unfolding in_turn
 in_turn-more W lists m = ap (filter_map (at_turn W lists)) (range-more m) ∙ filter_map-append (at_turn W lists) (range_with_len 0 m) (m ∷ [])
 
-pub in_turn-same : (W : ℕ) (lists lists' : List (List Verdict)) (m : ℕ) → ((i : ℕ) → i < m → at_turn W lists i ≡ at_turn W lists' i) → in_turn W lists m ≡ in_turn W lists' m
+pub in_turn-same : (W : ℕ) (lists lists' : List (List Verdict)) (m : ℕ)
+    → ((i : ℕ) → i < m → at_turn W lists i ≡ at_turn W lists' i) → in_turn W lists m ≡ in_turn W lists' m
 in_turn-same W lists lists' zero h = in_turn-none W lists ∙ sym (in_turn-none W lists')
 in_turn-same W lists lists' (suc m) h =
     let before = in_turn-same W lists lists' m (λ i lt. h i (omega arith)) in
@@ -53,11 +55,13 @@ module _ (W : ℕ) (lists : List (List Verdict)) (t : ℕ) (v : Verdict) (some :
   pub kept : (i : ℕ) → i < t → at_turn W grown i ≡ at_turn W lists i
   kept i lt =
       let rem : i % W < W = omega (arith, some) in
-      let less : turns W (i % W) i < turns W (i % W) t → i / W < turns W (i % W) t = λ h. omega (arith, h, count_even W (i % W) i rem (omega arith)) in
+      let less : turns W (i % W) i < turns W (i % W) t → i / W < turns W (i % W) t =
+      λ h. omega (arith, h, count_even W (i % W) i rem (omega arith)) in
       elim (cases_eq (i % W) (t % W)) [
         | inl e ↦
             let below : i / W < length old = omega (arith, less (turns_less_to e rem), counted_here e) in
-            ap (λ xs. slice_get xs (i / W)) (grown_here (i % W) e) ∙ before_end old (i / W) below ∙ ap (λ w. slice_get (get_or lists w []) (i / W)) (sym e)
+            ap (λ xs. slice_get xs (i / W)) (grown_here (i % W) e) ∙ before_end old (i / W) below
+            ∙ ap (λ w. slice_get (get_or lists w []) (i / W)) (sym e)
         | inr ne ↦ ap (λ xs. slice_get xs (i / W)) (get_or-set_other lists (t % W) (i % W) (old ++ v ∷ []) [] ne)
       ]
     where

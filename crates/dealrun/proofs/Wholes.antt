@@ -1,5 +1,6 @@
 -- What the lanes hold while the writer takes from them.
-use Rattle.std.proofs.Common.{◌≡◌, ◌<◌, ◌%◌, ℕ, Bool, true, false, List, [], ◌∷◌, ◌++◌, length, set, get_or, Some, None, arith, ap, ◌∙◌, sym, subst, refl, append_assoc, length-append, if◌then◌else◌}
+use Rattle.std.proofs.Common.{◌≡◌, ◌<◌, ◌%◌, ℕ, Bool, true, false, List, [], ◌∷◌, ◌++◌, length, set, get_or, Some}
+use Rattle.std.proofs.Common.{None, arith, ap, ◌∙◌, sym, subst, refl, append_assoc, length-append, if◌then◌else◌}
 use Rattle.std.proofs.Math.Seq.{map-set_same}
 use Rattle.conditions.specs.Form.{Form}
 use Rattle.lanes.specs.declared.verdict.Verdict.{Verdict}
@@ -13,7 +14,8 @@ use Rattle.dealrun.specs.internal.Writing.{held, KeepsLanes, TakenInTurn}
 use Rattle.dealrun.proofs.Finals.{same_at}
 
 -- a lane of which fewer were taken than were sent has one left
-pub some_left : (plan : Planned) (form : Form) (lanes : List OutView) (t place : ℕ) (l : OutView) → 0 < plan.workers → TakenInTurn plan lanes t → t < plan.count → place ≡ t % plan.workers → l ≡ get_or lanes place l
+pub some_left : (plan : Planned) (form : Form) (lanes : List OutView) (t place : ℕ) (l : OutView) → 0 < plan.workers
+    → TakenInTurn plan lanes t → t < plan.count → place ≡ t % plan.workers → l ≡ get_or lanes place l
     → AllWhole plan form lanes → (l.settled ≡ true) × (0 < length l.left)
 some_left plan form lanes t place l some taken less place_is l_is whole =
     let W = plan.workers in
@@ -42,7 +44,8 @@ pub keeps_on : (first mid last : List OutView) → KeepsLanes first mid → Keep
 keeps_on _ _ _ h k = record { rings = k.rings ∙ h.rings; settled = k.settled ∙ h.settled; contents = k.contents ∙ h.contents }
 
 -- one lane more was looked at
-pub keeps_more : (first lanes : List OutView) (w : ℕ) (old new : OutView) → KeepsLanes first lanes → old ≡ get_or lanes w old → (new.ring ≡ old.ring) × (new.settled ≡ old.settled)
+pub keeps_more : (first lanes : List OutView) (w : ℕ) (old new : OutView) → KeepsLanes first lanes
+    → old ≡ get_or lanes w old → (new.ring ≡ old.ring) × (new.settled ≡ old.settled)
     → (old.settled ≡ true → contents_of new ≡ contents_of old) → KeepsLanes first (set lanes w new)
 keeps_more first lanes w old new kept at same contents = record {
   rings = map-set_same (λ l. l.ring) lanes w new old (same.0 ∙ ap (λ l. l.ring) at) ∙ kept.rings;
@@ -51,8 +54,11 @@ keeps_more first lanes w old new kept at same contents = record {
 }
 
 -- and then a verdict was taken from it
-pub keeps_taken : (first lanes : List OutView) (w : ℕ) (old mid new : OutView) (v : Verdict) → KeepsLanes first lanes → old ≡ get_or lanes w old → (mid.ring ≡ old.ring) × (mid.settled ≡ old.settled) → mid.taken ≡ old.taken → mid.left ≡ old.left
-    → (new.ring ≡ mid.ring) × (new.settled ≡ mid.settled) → new.taken ≡ mid.taken ++ v ∷ [] → (mid.settled ≡ true → mid.left ≡ v ∷ new.left) → KeepsLanes first (set lanes w new)
+pub keeps_taken : (first lanes : List OutView) (w : ℕ) (old mid new : OutView) (v : Verdict) → KeepsLanes first lanes
+    → old ≡ get_or lanes w old → (mid.ring ≡ old.ring) × (mid.settled ≡ old.settled) → mid.taken ≡ old.taken
+    → mid.left ≡ old.left
+    → (new.ring ≡ mid.ring) × (new.settled ≡ mid.settled) → new.taken ≡ mid.taken ++ v ∷ []
+    → (mid.settled ≡ true → mid.left ≡ v ∷ new.left) → KeepsLanes first (set lanes w new)
 keeps_taken first lanes w old mid new v kept at looked taken left same took gave =
     keeps_more first lanes w old new kept at (same.0 ∙ looked.0, same.1 ∙ looked.1)
     (λ settled. let moved : new.taken ++ new.left ≡ mid.taken ++ mid.left =
@@ -69,9 +75,15 @@ held_is l l' settled same is = by_cases l.settled l'.settled (contents_of l) (co
     by_cases false s' xs ys settled same is = absurd cc
 
 -- what is said of settled lanes, and of what each holds, is still so
-pub still : (plan : Planned) (lanes lanes' : List OutView) (P : ℕ → List Verdict → Type 0) → length lanes ≡ plan.workers → KeepsLanes lanes lanes' → ByNumber plan lanes (λ w l. (l.settled ≡ true) × P w (contents_of l)) → ByNumber plan lanes' (λ w l. (l.settled ≡ true) × P w (contents_of l))
+pub still : (plan : Planned) (lanes lanes' : List OutView) (P : ℕ → List Verdict → Type 0)
+    → length lanes ≡ plan.workers → KeepsLanes lanes lanes'
+    → ByNumber plan lanes (λ w l. (l.settled ≡ true) × P w (contents_of l))
+    → ByNumber plan lanes' (λ w l. (l.settled ≡ true) × P w (contents_of l))
 still plan lanes lanes' P long kept h w e lt =
     let inside : w < length lanes = omega (arith, lt, long) in
     let was = h w e lt in
-    let settled = same_at (λ (l : OutView). l.settled) lanes' lanes w e kept.settled inside in
-    (settled ∙ was.0, subst (P w) (sym (held_is (get_or lanes w e) (get_or lanes' w e) was.0 settled (same_at held lanes' lanes w e kept.contents inside))) was.1)
+    let settled = same_at (λ (l : OutView). l.settled) lanes' lanes w e kept.settled inside in (
+      settled ∙ was.0,
+      subst (P w) (sym (held_is (get_or lanes w e) (get_or lanes' w e) was.0 settled
+          (same_at held lanes' lanes w e kept.contents inside))) was.1,
+    )

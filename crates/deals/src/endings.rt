@@ -4,8 +4,8 @@ ghost use Rattle.std.specs.Prelude.{◌≡◌, IfSome};
 ghost use Rattle.jobs.specs.Failures.{status_in};
 
 use crate::streams::Said;
-use advice::without_far_tips;
 use deals_cli::{Failure, Report};
+use explain::without_far_tips;
 use sinks::put_all;
 use std::io;
 use std::io::ErrorKind;

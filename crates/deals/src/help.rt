@@ -1,9 +1,9 @@
 //! What helps a person with a failure, below the line that names it.
 
-use advice::Reasons;
 use cond_lang::{CondError, text_after};
 use deals_cli::{Failure, Request};
-use hints::{explain, explain_definitions, explain_question};
+use explain::Reasons;
+use explain_conditions::{explain, explain_definitions, explain_question};
 use std::alloc::Global;
 
 /// What helps with a condition that has too many parts.
@@ -40,7 +40,7 @@ pub fn help(
             let read = Read::of(alloc, search.let_text, text, *error)?;
             explain_question(alloc, read.text.as_slice(), read.error).ok()
         }
-        _ => advice::help(alloc, words, request, failure, reasons),
+        _ => explain::help(alloc, words, request, failure, reasons),
     }
 }
 

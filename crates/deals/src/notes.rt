@@ -1,11 +1,11 @@
 //! What is noted for a person before a run begins, and once it has ended.
 
 use crate::seen::Seen;
-use advice::{dealt_again, fewer_boards, no_board, one_line};
 use cards::MAX_CANDIDATES;
 use clap::Error;
 use deals_cli::{Failure, Job, Report, Request, Task};
-use hint_rules::slip;
+use explain::{dealt_again, fewer_boards, no_board, one_line};
+use explain_conditions::slip;
 use sinks::{Piped, put_all};
 use std::alloc::Global;
 use std::io::IsTerminal;
@@ -31,7 +31,7 @@ fn note(alloc: Global, words: &[String], request: &Request<'_>, job: &Job) -> Op
         Job::Count(job) => (&job.condition, &job.plan),
         _ => return None,
     };
-    match hints::note(alloc, condition, plan.fixed()) {
+    match explain_conditions::note(alloc, condition, plan.fixed()) {
         Ok(None) => match slip_of(alloc, request) {
             Some(slip) => Some(slip),
             None => dealt_again(alloc, words, request),

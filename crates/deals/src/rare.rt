@@ -3,9 +3,9 @@
 use crate::streams::{hints_of, is_time};
 use cards::Fixed;
 use clap::Error;
-use console::Remark;
 use deals_cli::{Request, Search};
-use hints::rare_tests;
+use explain_conditions::rare_tests;
+use sinks::console::Remark;
 use std::alloc::Global;
 
 /// Which tests of a search's condition hardly ever hold, for a person.

@@ -4,10 +4,10 @@ ghost use Rattle.std.specs.Prelude.{◌≡◌, IfOk};
 
 use crate::rare::Rare;
 use crate::seen::Seen;
-use advice::hints_among;
 use clap::Error;
-use console::{Counts, Drawn, GATHERED_MILLIS, OverLine, Prompt, Style, millis};
 use deals_cli::{Request, When};
+use explain::hints_among;
+use sinks::console::{Counts, Drawn, GATHERED_MILLIS, OverLine, Prompt, Style, millis};
 use sinks::{Piped, Sink};
 use std::cell::Cell;
 use std::fs::File;

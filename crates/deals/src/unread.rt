@@ -1,7 +1,7 @@
 //! Words that aren't UTF-8, which end the program with nothing said but to a person.
 
 use crate::streams::is_time;
-use advice::{hints_among, not_utf8};
+use explain::{hints_among, not_utf8};
 use std::env::{Env, FillError};
 
 /// How many words are looked at, and the longest of them.

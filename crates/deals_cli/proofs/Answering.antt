@@ -13,7 +13,7 @@ use Rattle.jobs.specs.FirstRefusal.{IsDueFor}
 use Rattle.deals_cli.specs.Interruptions.{LeavesFrom}
 use Rattle.jobs.specs.Jobs.{IsReady, IsRefused, ReadsInput}
 use Rattle.deals_cli.specs.Served.{Serves}
-use Rattle.request_types.specs.Requests.{Wish, conditions, count, draw, lessons, make, pick, show, stream}
+use Rattle.requests.specs.Requests.{Wish, conditions, count, draw, lessons, make, pick, show, stream}
 use Rattle.jobs.specs.Statuses.{IsStatusOf, parts_of}
 use Rattle.deals_cli.specs.Wishes.{AppendsFrom}
 use Rattle.jobs.specs.declared.failure.Failure.{Failure}
@@ -62,7 +62,8 @@ unasked words e read other = go (asked words) refl
     go None is = is
     go (Some w) is = absurd (other (read.0 (subst (λ (x : Option Wish). IsSome x) (sym is) refl)))
 
-among : {X : Type 0} (words : List Text) (e : Error) → AreRead words (Err e) → (kind_of e ≡ OutOfMemory → ⊥) → (IsAmong (kind_of e) (kinds_for words) → X) → X
+among : {X : Type 0} (words : List Text) (e : Error) → AreRead words (Err e) → (kind_of e ≡ OutOfMemory → ⊥)
+    → (IsAmong (kind_of e) (kinds_for words) → X) → X
 among words e read other then = elim read.1 [ inl memory ↦ absurd (other memory) | inr is ↦ then is ]
 
 shown_is_no_memory : (k : ErrorKind) → is_shown k ≡ true → k ≡ OutOfMemory → ⊥
@@ -106,7 +107,8 @@ leaves_nothing w (Cells name) before old is = refl
 leaves_nothing w (Interrupted cause.Memory) before old is = refl
 leaves_nothing w _ before old is = absurd cc
 
-pub answers_refused : (words : List Text) (f : Failure) (before old : Option (List ℕ)) → AreRefused words f → Answers words (Err f) before before old old
+pub answers_refused : (words : List Text) (f : Failure) (before old : Option (List ℕ)) → AreRefused words f
+    → Answers words (Err f) before before old old
 answers_refused words f before old r = record {
   text = λ w is. tt;
   report = λ w is. tt;
@@ -119,7 +121,8 @@ answers_refused words f before old r = record {
 
 -- ---- while it is done
 
-pub answers_job : (words : List Text) (job : Job) (r : Result (Option Report) Failure) (before after old new : Option (List ℕ)) → IsTaskFor words (Do job)
+pub answers_job : (words : List Text) (job : Job) (r : Result (Option Report) Failure)
+    (before after old new : Option (List ℕ)) → IsTaskFor words (Do job)
     → ((w : Wish) → IsReady w job → Serves w r before after old new) → Answers words r before after old new
 answers_job words job (Ok report) before after old new (w, is, ready) serves =
     let s = serves w ready in record {
@@ -159,7 +162,8 @@ answers_text words before after old new (none, may) = record {
   untouched = tt;
 }
 
-pub breaks_text : (words : List Text) (before after old new : Option (List ℕ)) → IsShown words → Answers words (Err (Interrupted cause.Output)) before after old new
+pub breaks_text : (words : List Text) (before after old new : Option (List ℕ)) → IsShown words
+    → Answers words (Err (Interrupted cause.Output)) before after old new
 breaks_text words before after old new (none, may) = record {
   text = λ w is. tt;
   report = λ w is. tt;
@@ -190,10 +194,13 @@ reads_as_asked words (Do job) (w, asks, ready) reads = (w, asks, input_read w jo
 
 -- ---- the flush
 
-pub answers_flushed : (words : List Text) (report : Option Report) (before after old mid new : Option (List ℕ)) → new ≡ mid → Answers words (Ok report) before after old mid → Answers words (Ok report) before after old new
-answers_flushed words report before after old mid new same a = subst (λ (o : Option (List ℕ)). Answers words (Ok report) before after old o) (sym same) a
+pub answers_flushed : (words : List Text) (report : Option Report) (before after old mid new : Option (List ℕ))
+    → new ≡ mid → Answers words (Ok report) before after old mid → Answers words (Ok report) before after old new
+answers_flushed words report before after old mid new same a =
+    subst (λ (o : Option (List ℕ)). Answers words (Ok report) before after old o) (sym same) a
 
-pub flush_fails : (words : List Text) (report : Option Report) (before after old mid new : Option (List ℕ)) → new ≡ mid → Answers words (Ok report) before after old mid
+pub flush_fails : (words : List Text) (report : Option Report) (before after old mid new : Option (List ℕ))
+    → new ≡ mid → Answers words (Ok report) before after old mid
     → Answers words (Err (Interrupted cause.Output)) before after old new
 flush_fails words report before after old mid new same a = record {
   text = λ w is. tt;

@@ -7,9 +7,11 @@ use Rattle.plans.specs.declared.report.Report.{Report}
 use Rattle.jobs.specs.Failures.{CountsInput, faults_in, is_untouched, status_in, status_of}
 use Rattle.jobs.specs.Statuses.{IsStatusWithInput}
 use Rattle.jobs.specs.declared.failure.Failure.{Failure}
-use Rattle.jobs.specs.declared.failure.Failure.TheVariants.{CommandLine, Plan, Label, Hand, Definitions, Condition, Question, Cells, Interrupted, Line, Record, Input, EndOfInput}
+use Rattle.jobs.specs.declared.failure.Failure.TheVariants.{CommandLine, Plan, Label, Hand, Definitions, Condition}
+use Rattle.jobs.specs.declared.failure.Failure.TheVariants.{Question, Cells, Interrupted, Line, Record, Input}
+use Rattle.jobs.specs.declared.failure.Failure.TheVariants.{EndOfInput}
 use Rattle.jobs.proofs.Refusals.{status_of-status}
-use Rattle.request_types.specs.Requests.{Wish, make}
+use Rattle.requests.specs.Requests.{Wish, make}
 use Rattle.command_line.specs.CommandLine.{asked}
 use Rattle.deals_cli.specs.Program.{Answers, HasReport, TellsWhyFrom}
 use Rattle.deals_cli.specs.Reported.{Says}
@@ -54,13 +56,17 @@ faults_by_status (Err _) = refl
 
 -- ---- the clauses
 
-pub text_at_zero : (words : List Text) (r : Result (Option Report) Failure) (w : Wish) (s : ℕ) (before after old new : Option (List ℕ)) → Answers words r before after old new → s ≡ status_in r
+pub text_at_zero : (words : List Text) (r : Result (Option Report) Failure) (w : Wish) (s : ℕ)
+    (before after old new : Option (List ℕ)) → Answers words r before after old new → s ≡ status_in r
     → asked words ≡ Some w → s ≡ 0 → AppendsFrom w before after old new
 text_at_zero words (Ok report) w s before after old new a is asks zero = a.text w asks
 text_at_zero words (Err f) w s before after old new a is asks zero = no_zero f (sym is ∙ zero)
 
-pub why : (words : List Text) (r : Result (Option Report) Failure) (w : Wish) (s : ℕ) (before after old new : Option (List ℕ)) (input_old input_new : ℕ) (took_all : Type 0) (err_old err_new : Option (List ℕ))
-    → Answers words r before after old new → s ≡ status_in r → CountsInput r input_old input_new → Says r took_all err_old err_new → asked words ≡ Some w → (s ≡ 0 → ⊥)
+pub why : (words : List Text) (r : Result (Option Report) Failure) (w : Wish) (s : ℕ)
+    (before after old new : Option (List ℕ)) (input_old input_new : ℕ) (took_all : Type 0)
+    (err_old err_new : Option (List ℕ))
+    → Answers words r before after old new → s ≡ status_in r → CountsInput r input_old input_new
+    → Says r took_all err_old err_new → asked words ≡ Some w → (s ≡ 0 → ⊥)
     → TellsWhyFrom w s before after (input_new ≡ input_old + 1) old new took_all err_old err_new
 why words (Ok report) w s before after old new input_old input_new took_all err_old err_new a is counts says asks failed = absurd (failed is)
 why words (Err f) w s before after old new input_old input_new took_all err_old err_new a is counts says asks failed = record {
@@ -76,16 +82,23 @@ pub one_of_seven : (r : Result (Option Report) Failure) (s : ℕ) → s ≡ stat
 one_of_seven (Ok report) s is = (0, omega arith, sym is)
 one_of_seven (Err f) s is = subst IsStatusWithInput (sym is) (status_of-status f)
 
-pub nothing_written : (words : List Text) (r : Result (Option Report) Failure) (s : ℕ) (before after old new : Option (List ℕ)) → Answers words r before after old new → s ≡ status_in r
+pub nothing_written : (words : List Text) (r : Result (Option Report) Failure) (s : ℕ)
+    (before after old new : Option (List ℕ)) → Answers words r before after old new → s ≡ status_in r
     → Untouches s → new ≡ old
 nothing_written words (Ok report) s before after old new a is h =
-    let zero : s ≡ 0 = is in absurd (elim h [ inl b ↦ omega (arith, zero, b) | inr (inl b) ↦ omega (arith, zero, b) | inr (inr b) ↦ omega (arith, zero, b) ])
+    let zero : s ≡ 0 = is in absurd (elim h [
+      | inl b ↦ omega (arith, zero, b)
+      | inr (inl b) ↦ omega (arith, zero, b)
+      | inr (inr b) ↦ omega (arith, zero, b)
+    ])
 nothing_written words (Err f) s before after old new a is h = a.untouched (untouched_by f (subst Untouches is h))
 
-pub output_counted : (r : Result (Option Report) Failure) (s old new : ℕ) → s ≡ status_in r → new ≡ old + faults_in r → new ≡ old + (if s == 4 then 1 else 0)
+pub output_counted : (r : Result (Option Report) Failure) (s old new : ℕ) → s ≡ status_in r → new ≡ old + faults_in r
+    → new ≡ old + (if s == 4 then 1 else 0)
 output_counted r s old new is h = subst (λ (n : ℕ). new ≡ old + (if n == 4 then 1 else 0)) (sym is) (h ∙ ap (λ (n : ℕ). old + n) (faults_by_status r))
 
-pub input_kept : (r : Result (Option Report) Failure) (s old new : ℕ) → s ≡ status_in r → CountsInput r old new → (s ≡ 4 → ⊥) → (s ≡ 7 → ⊥) → new ≡ old
+pub input_kept : (r : Result (Option Report) Failure) (s old new : ℕ) → s ≡ status_in r → CountsInput r old new
+    → (s ≡ 4 → ⊥) → (s ≡ 7 → ⊥) → new ≡ old
 input_kept (Ok report) s old new is h four seven = h
 input_kept (Err (CommandLine text)) s old new is h four seven = h
 input_kept (Err (Plan error)) s old new is h four seven = h
@@ -105,14 +118,17 @@ input_kept (Err (Record line)) s old new is h four seven = h
 input_kept (Err Input) s old new is h four seven = absurd (seven is)
 input_kept (Err EndOfInput) s old new is h four seven = h
 
-pub has_report : (words : List Text) (r : Result (Option Report) Failure) (s : ℕ) (before after old new : Option (List ℕ)) (took_all : Type 0) (err_old err_new : Option (List ℕ))
+pub has_report : (words : List Text) (r : Result (Option Report) Failure) (s : ℕ)
+    (before after old new : Option (List ℕ)) (took_all : Type 0) (err_old err_new : Option (List ℕ))
     → Answers words r before after old new → s ≡ status_in r → Says r took_all err_old err_new → s ≡ 0 → HasReport words took_all err_old err_new
 has_report words (Err f) s before after old new took_all err_old err_new a is says zero = no_zero f (sym is ∙ zero)
 has_report words (Ok None) s before after old new took_all err_old err_new a is says zero = record {
-  reported = λ search look tricks notices asks wants took. absurd (some_made search look tricks notices (a.report (make search look tricks notices) asks) wants);
+  reported = λ search look tricks notices asks wants took. absurd
+      (some_made search look tricks notices (a.report (make search look tricks notices) asks) wants);
   quiet = λ quiet. says;
 }
 has_report words (Ok (Some report)) s before after old new took_all err_old err_new a is says zero = record {
-  reported = λ search look tricks notices asks wants took. said search look tricks notices report err_old err_new (a.report (make search look tricks notices) asks) (says took);
+  reported = λ search look tricks notices asks wants took. said search look tricks notices report err_old err_new
+      (a.report (make search look tricks notices) asks) (says took);
   quiet = λ quiet. absurd (none_made (asked words) report a.report a.no_report quiet);
 }

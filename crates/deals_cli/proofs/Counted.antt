@@ -34,7 +34,8 @@ deals_are plan xs plain = deals_from plan 0 xs plain
 no_more : (boards : List Board) (n : ℕ) → length boards ≤ n → take n boards ≡ boards
 no_more boards n few = take_all n boards few
 
-text_is : (style : Style) (subject : Subject) (plan : Planned) (form : Form) → plan.setting ≡ by_law → length (boards_of plan (accepted plan form)) ≤ most_deals
+text_is : (style : Style) (subject : Subject) (plan : Planned) (form : Form) → plan.setting ≡ by_law
+    → length (boards_of plan (accepted plan form)) ≤ most_deals
     → text_in (counting style subject) plan form ≡ table_by style subject plan form
 unfolding table_by
 text_is style subject plan form plain few =
@@ -43,7 +44,9 @@ text_is style subject plan form plain few =
     ∙ ap (λ bs. count_text style subject (map (λ board. board.deal) bs) (end_of plan form)) (no_more boards most_deals few)
     ∙ ap (λ ds. count_text style subject ds (end_of plan form)) (deals_are plan (accepted plan form) plain)
 
-pub table_written : (style : Style) (subject : Subject) (plan : Planned) (form : Form) (boards : ℕ) (old new : Option (List ℕ)) → plan.setting ≡ by_law
+pub table_written : (style : Style) (subject : Subject) (plan : Planned) (form : Form) (boards : ℕ)
+    (old new : Option (List ℕ)) → plan.setting ≡ by_law
     → length (boards_of plan (accepted plan form)) ≤ 2 ^ 40 → WritesTextIn (counting style subject) plan form boards old new
     → AppendsAll old new (table_by style subject plan form)
-table_written style subject plan form boards old new plain few written = written.bytes ∙ ap (append_known old) (text_is style subject plan form plain few)
+table_written style subject plan form boards old new plain few written = written.bytes
+    ∙ ap (append_known old) (text_is style subject plan form plain few)

@@ -1,5 +1,6 @@
 -- What is found, and read back.
-use Rattle.std.proofs.Common.{◌≡◌, ◌∙◌, ◌<◌, ◌≤◌, ◌^◌, ℕ, suc, zero, ◌+◌, Bool, true, false, cond, List, [], ◌∷◌, ◌++◌, length, map, Option, None, Some, refl, sym, ap, ap₂, arith, All, decimal}
+use Rattle.std.proofs.Common.{◌≡◌, ◌∙◌, ◌<◌, ◌≤◌, ◌^◌, ℕ, suc, zero, ◌+◌, Bool, true, false, cond, List, [], ◌∷◌}
+use Rattle.std.proofs.Common.{◌++◌, length, map, Option, None, Some, refl, sym, ap, ap₂, arith, All, decimal}
 use Rattle.std.specs.Prelude.{filter}
 use Rattle.std.specs.List.{enumerate_from, flat_map, range_with_len}
 use Rattle.std.proofs.lemmas.Grind.{flat_map-append}
@@ -12,10 +13,10 @@ use Rattle.cards.specs.declared.seat.Seat.{Seat}
 use Rattle.conditions.specs.Form.{Form}
 use Rattle.conditions.specs.Meaning.{holds}
 use Rattle.plans.specs.Text.{accepted, accepted_among, board_of, boards_of, end_of, limited, needed_by, text_in, text_of}
-use Rattle.picking.specs.NumberTexts.{said}
-use Rattle.picking.proofs.ReadBack.{read_back}
+use Rattle.input.specs.NumberTexts.{said}
+use Rattle.input.proofs.ReadBack.{read_back}
 use Rattle.notations.specs.Numbers.{number_line, numbers}
-use Rattle.picking.specs.Picked.{picked_text}
+use Rattle.input.specs.Picked.{picked_text}
 use Rattle.plans.specs.Plans.{Planned, candidate_of}
 use Rattle.plans.proofs.Ranges.{range_with_len-add}
 
@@ -26,7 +27,8 @@ board_line : (plan : Planned) (i n : ℕ) → number_line (board_of plan i n (ca
 unfolding board_in
 board_line plan i n = refl
 
-lines_from : (plan : Planned) (i : ℕ) (xs : List ℕ) → flat_map number_line (map (λ p. board_of plan p.0 p.1 (candidate_of plan p.1)) (enumerate_from i xs)) ≡ flat_map line_of xs
+lines_from : (plan : Planned) (i : ℕ) (xs : List ℕ) → flat_map number_line
+    (map (λ p. board_of plan p.0 p.1 (candidate_of plan p.1)) (enumerate_from i xs)) ≡ flat_map line_of xs
 lines_from plan i [] = refl
 lines_from plan i (x ∷ xs) =
     ap (λ l. l ++ flat_map number_line (map (λ p. board_of plan p.0 p.1 (candidate_of plan p.1)) (enumerate_from (i + 1) xs))) (board_line plan i x)
@@ -44,13 +46,16 @@ found_text plan form = append-nil (flat_map number_line (boards_of plan (accepte
 
 range_below : (first n end : ℕ) → first + n ≤ end → All (λ k. k < end) (range_with_len first n)
 range_below first zero end h = λ k d less. absurd (omega arith)
-range_below first (suc n) end h = All-cons (λ k. k < end) first (range_with_len (first + 1) n) (omega arith) (range_below (first + 1) n end (omega arith))
+range_below first (suc n) end h = All-cons (λ k. k < end) first (range_with_len (first + 1) n) (omega arith)
+    (range_below (first + 1) n end (omega arith))
 
 filter_short : (p : ℕ → Bool) (first n : ℕ) → length (filter p (range_with_len first n)) ≤ n
 filter_short p first zero = omega arith
 filter_short p first (suc n) = one_more (p first) (filter_short p (first + 1) n)
   where
-    one_more : (b : Bool) → length (filter p (range_with_len (first + 1) n)) ≤ n → length (cond b (first ∷ filter p (range_with_len (first + 1) n)) (filter p (range_with_len (first + 1) n))) ≤ suc n
+    one_more : (b : Bool) → length (filter p (range_with_len (first + 1) n)) ≤ n
+        → length (cond b (first ∷ filter p (range_with_len (first + 1) n)) (filter p (range_with_len (first + 1) n)))
+        ≤ suc n
     one_more true h = omega arith
     one_more false h = omega arith
 
@@ -66,7 +71,8 @@ pub accepted_below : (plan : Planned) (form : Form) → plan.first + plan.count 
 unfolding accepted_among
 accepted_below plan form h =
     limited_below plan.limit (2 ^ 40) (filter (λ k. holds form (candidate_of plan k)) (range_with_len plan.first plan.count))
-    (All-filter (λ k. holds form (candidate_of plan k)) (λ k. k < 2 ^ 40) (range_with_len plan.first plan.count) (range_below plan.first plan.count (2 ^ 40) h))
+    (All-filter (λ k. holds form (candidate_of plan k)) (λ k. k < 2 ^ 40) (range_with_len plan.first plan.count)
+    (range_below plan.first plan.count (2 ^ 40) h))
 
 pub accepted_short : (plan : Planned) (form : Form) → plan.first + plan.count ≤ 2 ^ 40 → length (accepted plan form) ≤ 2 ^ 40
 unfolding accepted_among
@@ -74,32 +80,43 @@ accepted_short plan form h =
     limited_short plan.limit (2 ^ 40) (filter (λ k. holds form (candidate_of plan k)) (range_with_len plan.first plan.count))
     (let few = filter_short (λ k. holds form (candidate_of plan k)) plan.first plan.count in omega arith)
 
-pub found_is_read : (plan : Planned) (form : Form) → plan.first + plan.count ≤ 2 ^ 40 → said (text_in numbers plan form) ≡ record { numbers = accepted plan form; refused = None }
+pub found_is_read : (plan : Planned) (form : Form) → plan.first + plan.count ≤ 2 ^ 40
+    → said (text_in numbers plan form) ≡ record { numbers = accepted plan form; refused = None }
 found_is_read plan form h = ap said (found_text plan form) ∙ read_back (accepted plan form) (accepted_below plan form h) (accepted_short plan form h)
 
 pub found_is_picked : (layout : Layout) (plan : Planned) (form : Form) (S : Setting) (B : ℕ) → EndsAlike layout → plan.first + plan.count ≤ 2 ^ 40
     → picked_text layout plan (said (text_in numbers (record plan { setting = S; first_board = B }) form)) ≡ text_in layout plan form
 found_is_picked layout plan form S B alike h =
     ap (picked_text layout plan) (found_is_read (record plan { setting = S; first_board = B }) form h)
-    ∙ ap (λ l. text_of layout plan (accepted plan form) ++ l) (alike (boards_of plan (accepted plan form)) (length (accepted plan form)) (end_of plan form))
+    ∙ ap (λ l. text_of layout plan (accepted plan form) ++ l)
+    (alike (boards_of plan (accepted plan form)) (length (accepted plan form)) (end_of plan form))
 
 -- ---- shards
 
 -- what is accepted of the first m candidates and of the next n
-accepted_two : (deals : ℕ → List Seat) (first : ℕ) (form : Form) (m n : ℕ) → accepted_among deals first form (m + n) ≡ accepted_among deals first form m ++ accepted_among deals (first + m) form n
+accepted_two : (deals : ℕ → List Seat) (first : ℕ) (form : Form) (m n : ℕ)
+    → accepted_among deals first form (m + n) ≡ accepted_among deals first form m
+    ++ accepted_among deals (first + m) form n
 unfolding accepted_among
 accepted_two deals first form m n =
     ap (filter (λ k. holds form (deals k))) (range_with_len-add first m n)
     ∙ filter-append (λ k. holds form (deals k)) (range_with_len first m) (range_with_len (first + m) n)
 
 pub shards : (plan : Planned) (form : Form) (m n : ℕ) → plan.limit ≡ None → plan.count ≡ m + n
-    → text_in numbers plan form ≡ text_in numbers (record plan { count = m }) form ++ text_in numbers (record plan { first = plan.first + m; count = n }) form
+    → text_in numbers plan form ≡ text_in numbers (record plan { count = m }) form
+    ++ text_in numbers (record plan { first = plan.first + m; count = n }) form
 shards plan form m n none all =
     found_text plan form
-    ∙ ap (flat_map line_of) (ap (λ l. limited l (accepted_among (candidate_of plan) plan.first form plan.count)) none ∙ ap (accepted_among (candidate_of plan) plan.first form) all ∙ accepted_two (candidate_of plan) plan.first form m n)
+    ∙ ap (flat_map line_of) (ap (λ l. limited l (accepted_among (candidate_of plan) plan.first form plan.count)) none
+    ∙ ap (accepted_among (candidate_of plan) plan.first form) all
+    ∙ accepted_two (candidate_of plan) plan.first form m n)
     ∙ flat_map-append line_of (accepted_among (candidate_of plan) plan.first form m) (accepted_among (candidate_of plan) (plan.first + m) form n)
-    ∙ ap (λ l. l ++ flat_map line_of (accepted_among (candidate_of plan) (plan.first + m) form n)) (sym (found_text (record plan { count = m }) form ∙ ap (λ l. flat_map line_of (limited l (accepted_among (candidate_of plan) plan.first form m))) none))
-    ∙ ap (λ l. text_in numbers (record plan { count = m }) form ++ l) (sym (found_text (record plan { first = plan.first + m; count = n }) form ∙ ap (λ l. flat_map line_of (limited l (accepted_among (candidate_of plan) (plan.first + m) form n))) none))
+    ∙ ap (λ l. l ++ flat_map line_of (accepted_among (candidate_of plan) (plan.first + m) form n))
+    (sym (found_text (record plan { count = m }) form ∙ ap
+    (λ l. flat_map line_of (limited l (accepted_among (candidate_of plan) plan.first form m))) none))
+    ∙ ap (λ l. text_in numbers (record plan { count = m }) form ++ l)
+    (sym (found_text (record plan { first = plan.first + m; count = n }) form
+    ∙ ap (λ l. flat_map line_of (limited l (accepted_among (candidate_of plan) (plan.first + m) form n))) none))
 
 accepted_all : (plan : Planned) (form : Form) → plan.limit ≡ None → accepted plan form ≡ accepted_among (candidate_of plan) plan.first form plan.count
 accepted_all plan form none = ap (λ l. limited l (accepted_among (candidate_of plan) plan.first form plan.count)) none
@@ -108,7 +125,8 @@ pub accepted_shards : (plan : Planned) (form : Form) (m n : ℕ) → plan.limit 
     → accepted plan form ≡ accepted (record plan { count = m }) form ++ accepted (record plan { first = plan.first + m; count = n }) form
 accepted_shards plan form m n none all =
     accepted_all plan form none ∙ ap (accepted_among (candidate_of plan) plan.first form) all ∙ accepted_two (candidate_of plan) plan.first form m n
-    ∙ ap₂ (λ (xs ys : List ℕ). xs ++ ys) (sym (accepted_all (record plan { count = m }) form none)) (sym (accepted_all (record plan { first = plan.first + m; count = n }) form none))
+    ∙ ap₂ (λ (xs ys : List ℕ). xs ++ ys) (sym (accepted_all (record plan { count = m }) form none))
+    (sym (accepted_all (record plan { first = plan.first + m; count = n }) form none))
 
 tried_all : (plan : Planned) (form : Form) → plan.limit ≡ None → end_of plan form ≡ plan.count
 unfolding needed_by
@@ -118,4 +136,5 @@ pub tried_shards : (plan : Planned) (form : Form) (m n : ℕ) → plan.limit ≡
     → end_of plan form ≡ end_of (record plan { count = m }) form + end_of (record plan { first = plan.first + m; count = n }) form
 tried_shards plan form m n none all =
     tried_all plan form none ∙ all
-    ∙ ap₂ (λ (x y : ℕ). x + y) (sym (tried_all (record plan { count = m }) form none)) (sym (tried_all (record plan { first = plan.first + m; count = n }) form none))
+    ∙ ap₂ (λ (x y : ℕ). x + y) (sym (tried_all (record plan { count = m }) form none))
+    (sym (tried_all (record plan { first = plan.first + m; count = n }) form none))

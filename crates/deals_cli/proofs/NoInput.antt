@@ -3,20 +3,22 @@ use Rattle.std.proofs.Common.{◌≡◌, ◌∙◌, ℕ, zero, suc, true, false,
 use Rattle.std.proofs.lemmas.List.{append-nil}
 use Rattle.clap.specs.Walk.{Text}
 use Rattle.plans.specs.declared.cause.Cause.TheVariants as cause
-use Rattle.picking.specs.NumberTexts.{said}
+use Rattle.input.specs.NumberTexts.{said}
 use Rattle.plans.specs.declared.refusal.RefusedLine.{RefusedLine}
-use Rattle.picking.specs.declared.fault.PickFault.TheVariants.{Refused}
+use Rattle.input.specs.declared.numbers.fault.PickFault.TheVariants.{Refused}
 use Rattle.jobs.specs.Failures.{status_of}
 use Rattle.deals_cli.specs.Interruptions.{EndsAtRecord, EndsFor}
-use Rattle.records.specs.Games.{game_says}
-use Rattle.records.specs.Texts.{spelled}
-use Rattle.records.specs.declared.fault.RefusedRecord.{RefusedRecord}
-use Rattle.request_types.specs.Requests.{Wish, draw, make, no_search, pick, show}
+use Rattle.input.specs.Games.{game_says}
+use Rattle.input.specs.Texts.{spelled}
+use Rattle.input.specs.declared.records.fault.RefusedRecord.{RefusedRecord}
+use Rattle.requests.specs.Requests.{Wish, draw, make, no_search, pick, show}
 use Rattle.jobs.specs.declared.failure.Failure.{Failure}
-use Rattle.jobs.specs.declared.failure.Failure.TheVariants.{CommandLine, Plan, Label, Hand, Definitions, Condition, Question, Cells, Interrupted, Line, Record, Input, EndOfInput}
+use Rattle.jobs.specs.declared.failure.Failure.TheVariants.{CommandLine, Plan, Label, Hand, Definitions, Condition}
+use Rattle.jobs.specs.declared.failure.Failure.TheVariants.{Question, Cells, Interrupted, Line, Record, Input}
+use Rattle.jobs.specs.declared.failure.Failure.TheVariants.{EndOfInput}
 use Rattle.jobs.specs.Makings.{plan_of}
 use Rattle.plans.specs.Plans.{Planned}
-use Rattle.told.specs.Picked.{text_picks}
+use Rattle.input.specs.TricksPicked.{text_picks}
 use Rattle.jobs.specs.Statuses.{IsStatus, IsStatusWithInput, parts_of}
 use Rattle.deals_cli.specs.Program.{IsStatusOfNone, MayFail, MayLeave, TellsWhy, TellsWhyFrom}
 
@@ -29,10 +31,12 @@ unfolding text_picks
 none_told line plan is = cc
 
 -- an input without bytes has no line that is refused
-no_line_ended : (w : Wish) (line : RefusedLine) (old new : Option (List ℕ)) → ((parts_of w).bytes → ⊥) → EndsFor w (Refused line) (Some []) (Some []) old new → ⊥
+no_line_ended : (w : Wish) (line : RefusedLine) (old new : Option (List ℕ)) → ((parts_of w).bytes → ⊥)
+    → EndsFor w (Refused line) (Some []) (Some []) old new → ⊥
 no_line_ended (pick seed hands l true hints) line old new other e =
     let none : e.given ≡ [] = sym (e.consumed ∙ append-nil e.given) in
-    none_told line (plan_of (no_search seed hands) l) (subst (λ (t : List ℕ). (text_picks (plan_of (no_search seed hands) l) t).refused ≡ Some line) none e.written.0)
+    none_told line (plan_of (no_search seed hands) l) (subst
+    (λ (t : List ℕ). (text_picks (plan_of (no_search seed hands) l) t).refused ≡ Some line) none e.written.0)
 no_line_ended (pick seed hands l false hints) line old new other e =
     let none : e.given ≡ [] = sym (e.consumed ∙ append-nil e.given) in
     nothing_refused line (subst (λ (t : List ℕ). (said t).refused ≡ Some line) none e.written.0)
@@ -58,7 +62,8 @@ no_end (make s l true notices) other (inr due) = other refl
 no_end draw other (inr due) = other tt
 no_end _ other (inr due) = due
 
-no_seven : (w : Wish) (f : Failure) (old new : Option (List ℕ)) → ((parts_of w).bytes → ⊥) → MayFail w f → MayLeave w f (Some []) (Some []) old new → (f ≡ Input → ⊥) → status_of f ≡ 7 → ⊥
+no_seven : (w : Wish) (f : Failure) (old new : Option (List ℕ)) → ((parts_of w).bytes → ⊥) → MayFail w f
+    → MayLeave w f (Some []) (Some []) old new → (f ≡ Input → ⊥) → status_of f ≡ 7 → ⊥
 no_seven w (CommandLine text) old new other due may sound is = cc
 no_seven w (Plan error) old new other due may sound is = cc
 no_seven w (Label label) old new other due may sound is = cc
@@ -90,7 +95,8 @@ six_of s (suc (suc (suc (suc (suc zero)))), below, is) other = (5, omega arith, 
 six_of s (suc (suc (suc (suc (suc (suc zero))))), below, is) other = absurd (other (sym is))
 six_of s (suc (suc (suc (suc (suc (suc (suc n)))))), below, is) other = absurd (omega arith)
 
-pub six : (words : List Text) (o : Option Wish) (s : ℕ) (old new : Option (List ℕ)) (took_all : Type 0) (err_old err_new : Option (List ℕ)) → IsStatusWithInput s
+pub six : (words : List Text) (o : Option Wish) (s : ℕ) (old new : Option (List ℕ)) (took_all : Type 0)
+    (err_old err_new : Option (List ℕ)) → IsStatusWithInput s
     → ((w : Wish) → o ≡ Some w → (s ≡ 0 → ⊥) → TellsWhy w s old new took_all err_old err_new) → (o ≡ None → IsStatusOfNone words s)
     → ((w : Wish) → o ≡ Some w → (parts_of w).bytes → ⊥) → IsStatus s
 six words None s old new took_all err_old err_new is some none other = six_of s is (λ seven. (none refl).neither (inr (inr seven)))

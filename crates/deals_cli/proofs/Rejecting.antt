@@ -1,5 +1,6 @@
 -- A run of which no candidate is accepted: the lanes that it could have had.
-use Rattle.std.proofs.Common.{◌≡◌, ◌<◌, ◌≤◌, ◌+◌, ◌++◌, ◌∙◌, ℕ, zero, suc, true, false, All, List, [], IfSome, None, Option, Some, ap, append-nil, arith, get_or, inl, length, map, refl, subst, sym}
+use Rattle.std.proofs.Common.{◌≡◌, ◌<◌, ◌≤◌, ◌+◌, ◌++◌, ◌∙◌, ℕ, zero, suc, true, false, All, List, [], IfSome, None}
+use Rattle.std.proofs.Common.{Option, Some, ap, append-nil, arith, get_or, inl, length, map, refl, subst, sym}
 use Rattle.std.specs.List.{range_with_len}
 use Rattle.std.specs.Option.{ForSome}
 use Rattle.std.proofs.lemmas.List.FromFn.{get_or-map-range_with_len, length-map-range_with_len}
@@ -62,7 +63,8 @@ pub record BreaksHeader (layout : Layout) (plan : Planned) (form : Form) (old ne
   pub lanes : List OutView
   pub stands : InterruptedIn layout plan form Output lanes 0 old new
 
-pub header_broken : (layout : Layout) (plan : Planned) (form : Form) (head : List ℕ) (old new : Option (List ℕ)) → 0 < plan.workers → head ≡ layout.header → AppendsPart old new head
+pub header_broken : (layout : Layout) (plan : Planned) (form : Form) (head : List ℕ) (old new : Option (List ℕ))
+    → 0 < plan.workers → head ≡ layout.header → AppendsPart old new head
     → BreaksHeader layout plan form old new
 unfolding idle_lanes
 header_broken layout plan form head old new some is part =
@@ -95,7 +97,8 @@ all_lanes plan form = map (lane_of plan form) (range_with_len 0 plan.workers)
 lane_at : (plan : Planned) (form : Form) (w : ℕ) (d : OutView) → w < plan.workers → get_or (all_lanes plan form) w d ≡ lane_of plan form w
 lane_at plan form w d lt = get_or-map-range_with_len (lane_of plan form) 0 plan.workers w w d lt (omega arith)
 
-module _ (layout : Layout) (has : List Board → Type 0) (plan : Planned) (form : Form) (old mid : Option (List ℕ)) (none : AcceptsNone plan form) (some : 0 < plan.workers)
+module _ (layout : Layout) (has : List Board → Type 0) (plan : Planned) (form : Form) (old mid : Option (List ℕ))
+    (none : AcceptsNone plan form) (some : 0 < plan.workers)
     (limit : ForSome plan.limit (λ most. 0 < most)) (head : mid ≡ append_known old layout.header) (printed : has []) where
   in_turn : TakenInTurn plan (all_lanes plan form) plan.count
   in_turn = record {
@@ -132,12 +135,14 @@ module _ (layout : Layout) (has : List Board → Type 0) (plan : Planned) (form 
         short = λ i lt most is. omega (arith, limit most is, ap length (no_boards i (omega arith)));
       }
 
-  pub closes : (new : Option (List ℕ)) → IsFixed plan.fixed → AppendsAll mid new (layout.footer [] plan.count) → Closes layout plan form (all_lanes plan form) 0 plan.count old new
+  pub closes : (new : Option (List ℕ)) → IsFixed plan.fixed → AppendsAll mid new (layout.footer [] plan.count)
+      → Closes layout plan form (all_lanes plan form) 0 plan.count old new
   closes new fits at =
       closed layout has plan form (all_lanes plan form) plan.count 0 old mid some (omega arith) so_far parts (inl refl) new (omega arith) fits
       (subst (λ boards. AppendsAll mid new (layout.footer boards plan.count)) (sym (no_boards plan.count (omega arith))) at)
 
-  pub breaks_footer : (new : Option (List ℕ)) → AppendsPart mid new (layout.footer [] plan.count) → InterruptedIn layout plan form Output (all_lanes plan form) 0 old new
+  pub breaks_footer : (new : Option (List ℕ)) → AppendsPart mid new (layout.footer [] plan.count)
+      → InterruptedIn layout plan form Output (all_lanes plan form) 0 old new
   breaks_footer new part =
       footer_broken layout has plan form (all_lanes plan form) plan.count 0 old mid some (omega arith) so_far parts (inl refl) new
       (subst (λ boards. AppendsPart mid new (layout.footer boards plan.count)) (sym (no_boards plan.count (omega arith))) part)

@@ -7,21 +7,22 @@ use Rattle.jobs.specs.declared.failure.Failure.TheVariants.{Interrupted, Record,
 use Rattle.jobs.specs.declared.job.ShowJob.{ShowJob}
 use Rattle.jobs.specs.declared.job.Job.TheVariants as a_job
 use Rattle.jobs.proofs.Statuses.{failed_input, no_memory, served}
-use Rattle.request_types.specs.Requests.{Wish, show}
+use Rattle.requests.specs.Requests.{Wish, show}
 use Rattle.deals_cli.specs.Served.{Serves}
-use Rattle.records.specs.Readers.{InputFaults}
-use Rattle.records.specs.Shown.{MoreFaults}
-use Rattle.records.specs.declared.reader.Next.{Next}
-use Rattle.records.specs.declared.reader.ReadFault.{ReadFault}
-use Rattle.records.specs.declared.reader.ReadFault.TheVariants as read
-use Rattle.records.specs.declared.shown.ShowFault.{ShowFault}
-use Rattle.records.specs.declared.shown.ShowFault.TheVariants as fault
+use Rattle.input.specs.Readers.{InputFaults}
+use Rattle.input.specs.Shown.{MoreFaults}
+use Rattle.input.specs.declared.records.reader.Next.{Next}
+use Rattle.input.specs.declared.records.reader.ReadFault.{ReadFault}
+use Rattle.input.specs.declared.records.reader.ReadFault.TheVariants as read
+use Rattle.input.specs.declared.records.shown.ShowFault.{ShowFault}
+use Rattle.input.specs.declared.records.shown.ShowFault.TheVariants as fault
 use Rattle.deals_cli.specs.internal.Ends.{CountsShown, EndsShowing, EndsShown}
 use Rattle.deals_cli.specs.Shown.{GoesOn, ShowsUnder}
 
 -- ---- how often the input failed
 
-pub counts_shown : (E : Type 0) (first : Result Next ReadFault) (r : Result ℕ ShowFault) (old mid new : ℕ) → InputFaults first old mid → MoreFaults first r mid new → CountsShown {E = E} (Ok r) old new
+pub counts_shown : (E : Type 0) (first : Result Next ReadFault) (r : Result ℕ ShowFault) (old mid new : ℕ)
+    → InputFaults first old mid → MoreFaults first r mid new → CountsShown {E = E} (Ok r) old new
 counts_shown E (Ok next) (Ok boards) old mid new h more = more ∙ h
 counts_shown E (Ok next) (Err (fault.Refused line)) old mid new h more = more ∙ h
 counts_shown E (Ok next) (Err fault.Input) old mid new h more = rw h at more
@@ -41,14 +42,16 @@ none_failed (Ok next) old new h other = h
 none_failed (Err (read.Refused line)) old new h other = h
 none_failed (Err read.Input) old new h other = absurd (other refl)
 
-pub goes_on : (first : Result Next ReadFault) (r : Result ℕ ShowFault) (old new : ℕ) → MoreFaults first r old new → (first ≡ Err read.Input → ⊥) → GoesOn first r
+pub goes_on : (first : Result Next ReadFault) (r : Result ℕ ShowFault) (old new : ℕ) → MoreFaults first r old new
+    → (first ≡ Err read.Input → ⊥) → GoesOn first r
 goes_on (Ok next) r old new h other = tt
 goes_on (Err (read.Refused line)) r old new h other = h.1
 goes_on (Err read.Input) r old new h other = absurd (other refl)
 
 -- ---- of a job
 
-pub ends_shown : (job : ShowJob) (r : Result ℕ ShowFault) (before after old new : Option (List ℕ)) → ShowsUnder job.format job.show job.heading r before after old new → EndsShown job r before after old new
+pub ends_shown : (job : ShowJob) (r : Result ℕ ShowFault) (before after old new : Option (List ℕ))
+    → ShowsUnder job.format job.show job.heading r before after old new → EndsShown job r before after old new
 ends_shown job (Ok n) before after old new h = h
 ends_shown job (Err (fault.Refused line)) before after old new h = h
 ends_shown job (Err fault.Input) before after old new h = inr h
@@ -56,7 +59,8 @@ ends_shown job (Err fault.Output) before after old new h = h
 
 -- ---- of a wish
 
-pub shown : {T : Type 0} (w : Wish) (job : ShowJob) (value : T) (before after old new : Option (List ℕ)) → IsReady w (a_job.Show job) → EndsShowing {T = T} job (Ok value) before after old new
+pub shown : {T : Type 0} (w : Wish) (job : ShowJob) (value : T) (before after old new : Option (List ℕ))
+    → IsReady w (a_job.Show job) → EndsShowing {T = T} job (Ok value) before after old new
     → Serves w (Ok None) before after old new
 shown (show l hints) job value before after old new (labels, format_is, show_is, heading_is) ends = record {
   text = rw (format_is, show_is, heading_is) at ends;
@@ -68,7 +72,8 @@ shown (show l hints) job value before after old new (labels, format_is, show_is,
 }
 shown _ job value before after old new ready ends = absurd ready
 
-pub show_fails : (T : Type 0) (w : Wish) (job : ShowJob) (f : Failure) (before after old new : Option (List ℕ)) → IsReady w (a_job.Show job) → EndsShowing {T = T} job (Err f) before after old new
+pub show_fails : (T : Type 0) (w : Wish) (job : ShowJob) (f : Failure) (before after old new : Option (List ℕ))
+    → IsReady w (a_job.Show job) → EndsShowing {T = T} job (Err f) before after old new
     → Serves w (Err f) before after old new
 show_fails T (show l hints) job (Interrupted Memory) before after old new (labels, format_is, show_is, heading_is) ends = record {
   text = tt;

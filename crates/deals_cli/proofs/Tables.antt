@@ -16,7 +16,8 @@ use Rattle.deals_cli.proofs.Finding.{accepted_shards, tried_shards}
 abbrev deals_of : Planned → Form → List (List Seat)
 deals_of plan form = map (candidate_of plan) (accepted plan form)
 
-whole : (subject : Subject) (plan : Planned) (form : Form) (deals : List (List Seat)) (tried : ℕ) → deals_of plan form ≡ deals → end_of plan form ≡ tried
+whole : (subject : Subject) (plan : Planned) (form : Form) (deals : List (List Seat)) (tried : ℕ)
+    → deals_of plan form ≡ deals → end_of plan form ≡ tried
     → table_by Csv subject plan form ≡ csv_text subject deals tried
 unfolding table_by count_text
 whole subject plan form deals tried deals_are tried_is = ap₂ (csv_text subject) deals_are tried_is
@@ -26,11 +27,14 @@ unfolding table_by count_text
 shard subject plan form = refl
 
 pub tables_add_up : (subject : Subject) (plan : Planned) (form : Form) (m n : ℕ) → plan.limit ≡ None → plan.count ≡ m + n
-    → AddUp subject (table_by Csv subject (record plan { count = m }) form) (table_by Csv subject (record plan { first = plan.first + m; count = n }) form) (table_by Csv subject plan form)
+    → AddUp subject (table_by Csv subject (record plan { count = m }) form)
+    (table_by Csv subject (record plan { first = plan.first + m; count = n }) form) (table_by Csv subject plan form)
 tables_add_up subject plan form m n none all =
     let one : Planned = record plan { count = m } in
     let two : Planned = record plan { first = plan.first + m; count = n } in
-    let deals = ap (map (candidate_of plan)) (accepted_shards plan form m n none all) ∙ map-append (candidate_of plan) (accepted one form) (accepted two form) in
-    let all_is = whole subject plan form (deals_of one form ++ deals_of two form) (end_of one form + end_of two form) deals (tried_shards plan form m n none all) in
+    let deals = ap (map (candidate_of plan)) (accepted_shards plan form m n none all)
+    ∙ map-append (candidate_of plan) (accepted one form) (accepted two form) in
+    let all_is = whole subject plan form (deals_of one form ++ deals_of two form) (end_of one form + end_of two form)
+    deals (tried_shards plan form m n none all) in
     rw (shard subject one form, shard subject two form, all_is)
     (adds_up subject (deals_of one form) (deals_of two form) (end_of one form) (end_of two form))

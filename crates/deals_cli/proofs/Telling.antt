@@ -1,11 +1,11 @@
 -- From how boards with tricks were found and told to what is said of that.
 use Rattle.std.proofs.Common.{◌≡◌, ◌∙◌, ◌≤◌, ◌^◌, ℕ, ◌+◌, Bool, List, [], length, Option, None, Some, Result, Ok, Err, refl, ap, subst, inl, inr}
-use Rattle.captions.specs.Captions.{captions_in}
+use Rattle.boards.specs.Captions.{captions_in}
 use Rattle.cond_lang.specs.Form.{Form}
 use Rattle.notations.specs.Numbers.{numbers}
-use Rattle.picking.specs.NumberTexts.{said}
-use Rattle.picking.specs.declared.fault.PickFault.{PickFault}
-use Rattle.picking.specs.declared.fault.PickFault.TheVariants as picks
+use Rattle.input.specs.NumberTexts.{said}
+use Rattle.input.specs.declared.numbers.fault.PickFault.{PickFault}
+use Rattle.input.specs.declared.numbers.fault.PickFault.TheVariants as picks
 use Rattle.plans.specs.Plans.{Planned}
 use Rattle.plans.specs.Text.{accepted, end_of, text_in}
 use Rattle.plans.specs.declared.cause.Cause.{Cause}
@@ -15,10 +15,10 @@ use Rattle.plans.specs.declared.report.Report.{Report}
 use Rattle.jobs.specs.Jobs.{IsReadyRun}
 use Rattle.jobs.specs.declared.boards_job.BoardsJob.{BoardsJob}
 use Rattle.jobs.specs.declared.failure.Failure.TheVariants.{Interrupted, Line, Input}
-use Rattle.request_types.specs.Requests.{Look, Search}
-use Rattle.request_types.specs.declared.request.Notices.{Notices}
-use Rattle.request_types.specs.declared.workers.Workers.{Workers}
-use Rattle.told.specs.Told.{Tells, Written}
+use Rattle.requests.specs.Requests.{Look, Search}
+use Rattle.requests.specs.declared.request.Notices.{Notices}
+use Rattle.requests.specs.declared.workers.Workers.{Workers}
+use Rattle.input.specs.Told.{Tells, Written}
 use Rattle.jobs.specs.Makings.{AreWorkers}
 use Rattle.deals_cli.specs.Runs.{InterruptsRun}
 use Rattle.deals_cli.specs.WithTricks.{TellsBoards}
@@ -28,7 +28,8 @@ use Rattle.deals_cli.proofs.Finding.{accepted_below, accepted_short, found_is_re
 use Rattle.deals_cli.proofs.OtherWorkers.{worked_end, worked_writes}
 
 -- what a run found
-pub found_by : (plan run : Planned) (form : Form) (n : ℕ) (written : Counted) (bytes found : List ℕ) → run ≡ record plan { workers = n } → plan.first + plan.count ≤ 2 ^ 40
+pub found_by : (plan run : Planned) (form : Form) (n : ℕ) (written : Counted) (bytes found : List ℕ)
+    → run ≡ record plan { workers = n } → plan.first + plan.count ≤ 2 ^ 40
     → Wrote numbers run form written (Some []) (Some bytes) → found ≡ (said bytes).numbers → Found plan form found written.candidates written.boards
 found_by plan run form n written bytes found is few h read =
     let text = worked_writes numbers plan run form n written.boards (Some []) (Some bytes) is h.text in
@@ -47,23 +48,33 @@ found_by plan run form n written bytes found is few h read =
     unwrapped (Some l) = l
     unwrapped None = []
 
-pub finding_broken : (plan run : Planned) (form : Form) (asked : Workers) (cause : Cause) (found : List ℕ) (n : ℕ) → AreWorkers asked n → run ≡ record plan { workers = n } → InterruptsRun numbers run form cause (Some []) (Some found)
+pub finding_broken : (plan run : Planned) (form : Form) (asked : Workers) (cause : Cause) (found : List ℕ) (n : ℕ)
+    → AreWorkers asked n → run ≡ record plan { workers = n }
+    → InterruptsRun numbers run form cause (Some []) (Some found)
     → EndsFinding plan asked form (Err (finding_cause cause))
 finding_broken plan run form asked Memory found n are is h = tt
 finding_broken plan run form asked Output found n are is h = tt
-finding_broken plan run form asked Spawn found n are is h = (found, (n, are, subst (λ p. InterruptsRun numbers p form Spawn (Some []) (Some found)) is h))
-finding_broken plan run form asked (Stopped w) found n are is h = (found, (n, are, subst (λ p. InterruptsRun numbers p form (Stopped w) (Some []) (Some found)) is h))
-finding_broken plan run form asked (Unclosed w) found n are is h = (found, (n, are, subst (λ p. InterruptsRun numbers p form (Unclosed w) (Some []) (Some found)) is h))
+finding_broken plan run form asked Spawn found n are is h =
+    (found, (n, are, subst (λ p. InterruptsRun numbers p form Spawn (Some []) (Some found)) is h))
+finding_broken plan run form asked (Stopped w) found n are is h =
+    (found, (n, are, subst (λ p. InterruptsRun numbers p form (Stopped w) (Some []) (Some found)) is h))
+finding_broken plan run form asked (Unclosed w) found n are is h =
+    (found, (n, are, subst (λ p. InterruptsRun numbers p form (Unclosed w) (Some []) (Some found)) is h))
 
 -- ---- of a job
 
-module _ (job : BoardsJob) (w : Written) (found : List ℕ) (before after old new : Option (List ℕ)) (w_is : w ≡ record { format = job.format; show = job.show; heading = captions_in job.format job.heading }) (found_is : found ≡ accepted job.plan job.condition) where
-  tells_for : {T : Type 0} (s : Search) (l : Look) (tricks : Bool) (notices : Notices) (result : Result T PickFault) → IsReadyRun s l tricks notices job → Tells w job.plan found result before after old new
+module _ (job : BoardsJob) (w : Written) (found : List ℕ) (before after old new : Option (List ℕ))
+    (w_is : w ≡ record { format = job.format; show = job.show; heading = captions_in job.format job.heading })
+    (found_is : found ≡ accepted job.plan job.condition) where
+  tells_for : {T : Type 0} (s : Search) (l : Look) (tricks : Bool) (notices : Notices) (result : Result T PickFault)
+      → IsReadyRun s l tricks notices job → Tells w job.plan found result before after old new
       → TellsBoards s l job.condition result before after old new
   tells_for s l tricks notices result ready h = rw (ready.plan_is, ready.heading_is, ready.format_is, ready.show_is) at (rw (w_is, found_is) at h)
 
-  pub ends_told : (report : Report) (value : Unit {0}) → Tells w job.plan found (Ok value) before after old new → report.format ≡ job.format → report.plan ≡ job.plan
-      → report.candidates ≡ end_of job.plan job.condition → report.boards ≡ length (accepted job.plan job.condition) → EndsReady job (Ok report) before after old new
+  pub ends_told : (report : Report) (value : Unit {0}) → Tells w job.plan found (Ok value) before after old new
+      → report.format ≡ job.format → report.plan ≡ job.plan
+      → report.candidates ≡ end_of job.plan job.condition → report.boards ≡ length (accepted job.plan job.condition)
+      → EndsReady job (Ok report) before after old new
   ends_told report value h format_is plan_is candidates boards = record {
     ends = λ s l tricks notices ready. (
       tells_for s l tricks notices (Ok value) ready h,
@@ -76,20 +87,27 @@ module _ (job : BoardsJob) (w : Written) (found : List ℕ) (before after old ne
     );
   }
 
-  pub ends_output : Tells {T = Unit {0}} w job.plan found (Err picks.Output) before after old new → EndsReady job (Err (Interrupted Output)) before after old new
+  pub ends_output : Tells {T = Unit {0}} w job.plan found (Err picks.Output) before after old new
+      → EndsReady job (Err (Interrupted Output)) before after old new
   ends_output h = record { ends = λ s l tricks notices ready. inl (tells_for s l tricks notices (Err picks.Output) ready h, λ bad. absurd cc) }
 
-  pub ends_line : (line : RefusedLine) → Tells {T = Unit {0}} w job.plan found (Err (picks.Refused line)) before after old new → EndsReady job (Err (Line line)) before after old new
+  pub ends_line : (line : RefusedLine) → Tells {T = Unit {0}} w job.plan found (Err (picks.Refused line)) before after
+      old new → EndsReady job (Err (Line line)) before after old new
   ends_line line h = record { ends = λ s l tricks notices ready. tells_for s l tricks notices (Err (picks.Refused line)) ready h }
 
   pub ends_input : Tells {T = Unit {0}} w job.plan found (Err picks.Input) before after old new → EndsReady job (Err Input) before after old new
   ends_input h = record { ends = λ s l tricks notices ready. tells_for s l tricks notices (Err picks.Input) ready h }
 
   -- where what stands before a fault of the input couldn't be passed on
-  pub line_unflushed : (line : RefusedLine) → Tells {T = Unit {0}} w job.plan found (Err (picks.Refused line)) before after old new → EndsReady job (Err (Interrupted Output)) before after old new
-  line_unflushed line h = record { ends = λ s l tricks notices ready. inr (refl, inl (line, tells_for s l tricks notices (Err (picks.Refused line)) ready h)) }
+  pub line_unflushed : (line : RefusedLine) → Tells {T = Unit {0}} w job.plan found (Err (picks.Refused line)) before
+      after old new → EndsReady job (Err (Interrupted Output)) before after old new
+  line_unflushed line h = record {
+    ends = λ s l tricks notices ready. inr
+        (refl, inl (line, tells_for s l tricks notices (Err (picks.Refused line)) ready h));
+  }
 
-  pub input_unflushed : Tells {T = Unit {0}} w job.plan found (Err picks.Input) before after old new → EndsReady job (Err (Interrupted Output)) before after old new
+  pub input_unflushed : Tells {T = Unit {0}} w job.plan found (Err picks.Input) before after old new
+      → EndsReady job (Err (Interrupted Output)) before after old new
   input_unflushed h = record { ends = λ s l tricks notices ready. inr (refl, inr (tells_for s l tricks notices (Err picks.Input) ready h)) }
 
 -- the run was interrupted
@@ -97,7 +115,17 @@ pub ends_finding : (job : BoardsJob) (cause : Cause) (at out : Option (List ℕ)
     → EndsReady job (Err (Interrupted cause)) at at out out
 ends_finding job Memory at out h = record { ends = λ s l tricks notices ready. refl }
 ends_finding job Output at out h = absurd h
-ends_finding job _ at out h = record { ends = λ s l tricks notices ready. let run = rw (ready.plan_is, ready.workers_are) at h.1 in inl ((refl, refl, record { found = h.0; workers = run.0; are_workers = run.1; run = run.2 }), λ e. refl) }
+ends_finding job _ at out h = record {
+  ends = λ s l tricks notices ready. let run =
+      rw (ready.plan_is, ready.workers_are) at h.1 in inl (
+        (
+          refl,
+          refl,
+          record { found = h.0; workers = run.0; are_workers = run.1; run = run.2 },
+        ),
+        λ e. refl,
+      );
+}
 
 pub ends_memory : (job : BoardsJob) (at out : Option (List ℕ)) → EndsReady job (Err (Interrupted Memory)) at at out out
 ends_memory job at out = record { ends = λ s l tricks notices ready. refl }

@@ -9,7 +9,7 @@ use Rattle.boards.specs.declared.format.Format.{Format}
 use Rattle.plans.specs.Plans.{Planned}
 use Rattle.boards.specs.Headings.{HeadingView}
 use Rattle.jobs.specs.Makings.{title_of}
-use Rattle.request_types.specs.Requests.{Look}
+use Rattle.requests.specs.Requests.{Look}
 
 -- the whole text of a plan under a condition
 abbrev pub text_as : Format → Planned → Form → List ℕ

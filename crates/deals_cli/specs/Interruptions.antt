@@ -3,20 +3,20 @@ use Rattle.std.specs.Prelude.{◌≡◌, ◌⊎◌, ℕ, Bool, List, [], Err, Is
 use Rattle.cond_lang.specs.Form.{Form}
 use Rattle.plans.specs.declared.cause.Cause.{Cause}
 use Rattle.plans.specs.declared.cause.Cause.TheVariants.{Memory}
-use Rattle.picking.specs.FourBytes.{EndsBefore}
-use Rattle.picking.specs.declared.fault.PickFault.{PickFault}
-use Rattle.picking.specs.declared.fault.PickFault.TheVariants as picks
+use Rattle.input.specs.FourBytes.{EndsBefore}
+use Rattle.input.specs.declared.numbers.fault.PickFault.{PickFault}
+use Rattle.input.specs.declared.numbers.fault.PickFault.TheVariants as picks
 use Rattle.sinks.specs.Appended.{AppendsPart}
 use Rattle.jobs.specs.Counting.{IsAsked}
-use Rattle.records.specs.declared.fault.RefusedRecord.{RefusedRecord}
-use Rattle.records.specs.declared.shown.ShowFault.{ShowFault}
-use Rattle.records.specs.declared.shown.ShowFault.TheVariants as shown
+use Rattle.input.specs.declared.records.fault.RefusedRecord.{RefusedRecord}
+use Rattle.input.specs.declared.records.shown.ShowFault.{ShowFault}
+use Rattle.input.specs.declared.records.shown.ShowFault.TheVariants as shown
 use Rattle.deals_cli.specs.Formats.{layout_in}
 use Rattle.deals_cli.specs.Picked.{PicksAs}
 use Rattle.deals_cli.specs.Shown.{ShowsUnder}
 use Rattle.jobs.specs.Makings.{AreWorkers, Means, heading_of, plan_of, title_of}
-use Rattle.request_types.specs.Requests.{Look, Questions, Search, Wish, count, draw, make}
-use Rattle.request_types.specs.Requests.{no_search, numbers_look, pick, show}
+use Rattle.requests.specs.Requests.{Look, Questions, Search, Wish, count, draw, make}
+use Rattle.requests.specs.Requests.{no_search, numbers_look, pick, show}
 pub use Rattle.deals_cli.specs.Runs.{InterruptsRun}
 use Rattle.deals_cli.specs.WithTricks.{BreaksTold, FailsTold, StopsAtLine}
 use Rattle.deals_cli.specs.Wishes.{IsDrawn, seed_text, text_of}

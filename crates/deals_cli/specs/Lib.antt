@@ -1,4 +1,4 @@
-pub use Rattle.request_types.specs.Requests
+pub use Rattle.requests.specs.Requests
 pub use Rattle.jobs.specs.Makings
 pub use Rattle.command_line.specs.Commands
 pub use Rattle.command_line.specs.CommandLine

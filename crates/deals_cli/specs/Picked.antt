@@ -5,11 +5,11 @@ use Rattle.boards.specs.Headings.{HeadingView}
 use Rattle.boards.specs.declared.format.Format.{Format}
 use Rattle.boards.specs.declared.show.Show.{Show}
 use Rattle.notations.specs.Formats.{layout_showing}
-use Rattle.picking.specs.Outcomes.{Picks}
-use Rattle.picking.specs.declared.fault.PickFault.{PickFault}
+use Rattle.input.specs.Outcomes.{Picks}
+use Rattle.input.specs.declared.numbers.fault.PickFault.{PickFault}
 use Rattle.plans.specs.Plans.{Planned}
-use Rattle.told.specs.Picked.{text_picks}
-use Rattle.told.specs.Told.{TellsBy}
+use Rattle.input.specs.TricksPicked.{text_picks}
+use Rattle.input.specs.Told.{TellsBy}
 
 abbrev pub PicksAs : {T : Type 0} → (tricks : Bool) → Format → Show → HeadingView → Planned
     → Result T PickFault → (before after old new : Option (List ℕ)) → Type 0

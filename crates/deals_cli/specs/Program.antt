@@ -14,10 +14,10 @@ use Rattle.deals_cli.specs.Interruptions.{LeavesFrom}
 use Rattle.jobs.specs.Lines.{line_of}
 use Rattle.deals_cli.specs.Reported.{Reports, ReportsFor, wants_report}
 use Rattle.jobs.specs.Jobs.{IsReady, ReadsInput}
-use Rattle.request_types.specs.Requests.{Look, Search, Wish, make}
+use Rattle.requests.specs.Requests.{Look, Search, Wish, make}
 use Rattle.jobs.specs.Statuses.{parts_of}
 use Rattle.plans.specs.declared.report.Report.{Report}
-use Rattle.request_types.specs.declared.request.Notices.{Notices}
+use Rattle.requests.specs.declared.request.Notices.{Notices}
 use Rattle.jobs.specs.declared.failure.Failure.{Failure}
 use Rattle.jobs.specs.declared.failure.Failure.TheVariants.{Interrupted, Input}
 use Rattle.command_line.specs.CommandLine.{asked, kinds_for}

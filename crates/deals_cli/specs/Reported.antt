@@ -10,8 +10,8 @@ use Rattle.jobs.specs.Lines.{line_of}
 use Rattle.jobs.specs.declared.failure.Failure.{Failure}
 use Rattle.sinks.specs.Appended.{AppendsAll}
 use Rattle.boards.specs.declared.format.Format.{Format}
-use Rattle.request_types.specs.Requests.{Look, Search, Wish, make}
-use Rattle.request_types.specs.declared.request.Notices.{Notices}
+use Rattle.requests.specs.Requests.{Look, Search, Wish, make}
+use Rattle.requests.specs.declared.request.Notices.{Notices}
 use Rattle.plans.specs.declared.report.Report.{Report}
 
 -- the counts of a plan's run under a condition: the candidates are those up to the one whose board

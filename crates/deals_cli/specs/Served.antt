@@ -4,7 +4,7 @@ use Rattle.jobs.specs.Failures.{is_untouched, status_in}
 use Rattle.jobs.specs.FirstRefusal.{IsDueFor}
 use Rattle.jobs.specs.Statuses.{IsStatusOf}
 use Rattle.jobs.specs.declared.failure.Failure.{Failure}
-use Rattle.request_types.specs.Requests.{Wish}
+use Rattle.requests.specs.Requests.{Wish}
 use Rattle.deals_cli.specs.Interruptions.{LeavesFrom}
 use Rattle.deals_cli.specs.Reported.{ReportsFor}
 use Rattle.deals_cli.specs.Wishes.{AppendsFrom}

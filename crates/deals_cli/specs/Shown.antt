@@ -6,16 +6,16 @@ use Rattle.boards.specs.Headings.{HeadingView, no_heading}
 use Rattle.boards.specs.declared.format.Format.{Format}
 use Rattle.boards.specs.declared.show.Show.{Show}
 use Rattle.boards.specs.TricksLines.{TricksView}
-use Rattle.captions.specs.Captions.{captions_in}
+use Rattle.boards.specs.Captions.{captions_in}
 use Rattle.notations.specs.Formats.{layout_solved}
-use Rattle.records.specs.Readers.{IsFresh, ReadsNext}
-use Rattle.records.specs.Shown.{EndsBy, Shows}
-use Rattle.records.specs.declared.reader.BoardReader.{BoardReader}
-use Rattle.records.specs.declared.reader.Next.{Next}
-use Rattle.records.specs.declared.reader.Next.TheVariants.{Board, Last}
-use Rattle.records.specs.declared.reader.ReadFault.{ReadFault}
-use Rattle.records.specs.declared.reader.ReadFault.TheVariants as read
-use Rattle.records.specs.declared.shown.ShowFault.{ShowFault}
+use Rattle.input.specs.Readers.{IsFresh, ReadsNext}
+use Rattle.input.specs.Shown.{EndsBy, Shows}
+use Rattle.input.specs.declared.records.reader.BoardReader.{BoardReader}
+use Rattle.input.specs.declared.records.reader.Next.{Next}
+use Rattle.input.specs.declared.records.reader.Next.TheVariants.{Board, Last}
+use Rattle.input.specs.declared.records.reader.ReadFault.{ReadFault}
+use Rattle.input.specs.declared.records.reader.ReadFault.TheVariants as read
+use Rattle.input.specs.declared.records.shown.ShowFault.{ShowFault}
 
 -- each label that is given, or else that of the game
 abbrev pub labelled : (given game : HeadingView) → HeadingView

@@ -14,9 +14,9 @@ use Rattle.deals_cli.specs.Formats.{text_showing}
 use Rattle.deals_cli.specs.Picked.{PicksAs}
 use Rattle.deals_cli.specs.Shown.{ShowsUnder}
 use Rattle.jobs.specs.Makings.{Means, heading_of, plan_of, title_of}
-use Rattle.request_types.specs.Requests.{Wish, conditions, count, draw, make}
-use Rattle.lessons.specs.Lessons.{lessons_text}
-use Rattle.request_types.specs.Requests.{lessons, no_search, numbers_look, pick, show, stream}
+use Rattle.requests.specs.Requests.{Wish, conditions, count, draw, make}
+use Rattle.requests.specs.Lessons.{lessons_text}
+use Rattle.requests.specs.Requests.{lessons, no_search, numbers_look, pick, show, stream}
 use Rattle.deals_cli.specs.WithTricks.{WritesTold}
 use Rattle.statistics.specs.Counting.{Subject}
 

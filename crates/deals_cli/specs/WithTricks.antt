@@ -5,14 +5,14 @@ use Rattle.cond_lang.specs.Form.{Form}
 use Rattle.notations.specs.Numbers.{numbers}
 use Rattle.plans.specs.declared.cause.Cause.{Cause}
 use Rattle.plans.specs.declared.cause.Cause.TheVariants.{Output}
-use Rattle.picking.specs.declared.fault.PickFault.{PickFault}
-use Rattle.picking.specs.declared.fault.PickFault.TheVariants as picks
+use Rattle.input.specs.declared.numbers.fault.PickFault.{PickFault}
+use Rattle.input.specs.declared.numbers.fault.PickFault.TheVariants as picks
 use Rattle.plans.specs.declared.refusal.RefusedLine.{RefusedLine}
 use Rattle.plans.specs.Text.{accepted}
 use Rattle.jobs.specs.Makings.{AreWorkers, plan_of, title_of}
-use Rattle.request_types.specs.Requests.{Look, Search}
+use Rattle.requests.specs.Requests.{Look, Search}
 use Rattle.deals_cli.specs.Runs.{InterruptsRun}
-use Rattle.told.specs.Told.{Tells, Written}
+use Rattle.input.specs.Told.{Tells, Written}
 
 -- the boards are written so
 abbrev pub look_of : Look → Written

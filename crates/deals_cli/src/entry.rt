@@ -6,15 +6,15 @@ ghost use Rattle.command_line.specs.CommandLine.{asked};
 ghost use Rattle.deals_cli.specs.Program.{Answers, HasReport, IsFlushedAfter, IsStatusFor};
 ghost use Rattle.deals_cli.specs.Program.{TellsWhy, TellsWhyFrom, WantsBytes, WantsInput};
 ghost use Rattle.jobs.specs.Failures.{CountsInput, faults_in, status_in};
-ghost use Rattle.request_types.specs.Requests.{Wish};
+ghost use Rattle.requests.specs.Requests.{Wish};
 ghost use Rattle.jobs.specs.Statuses.{IsStatus, IsStatusWithInput};
 ghost use Rattle.deals_cli.specs.Wishes.{Appends, AppendsFrom};
 
 use crate::ending::conclude;
 use crate::task::{perform, prepare};
 use command_line::read_words;
+use input::{NoBytes, Source};
 use jobs::Failure;
-use picking::{NoBytes, Source};
 use plans::Report;
 use sinks::Sink;
 use std::alloc::Global;

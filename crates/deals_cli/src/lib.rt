@@ -1,7 +1,7 @@
 //! The program: `read_words`, `prepare` and `perform` (`task.rt`), and `conclude` (`ending.rt`), in
 //! this order. `program` (`entry.rt`) calls them, and so does `main`.
 //!
-//! Words ask for a `Request` (`request_types`), and a `Job` is what it means (`jobs`). `serve` does
+//! Words ask for a `Request` (`requests`), and a `Job` is what it means (`jobs`). `serve` does
 //! the job.
 #![tactic(auto)]
 
@@ -23,7 +23,7 @@ pub use ending::conclude;
 pub use entry::{program, program_with_input};
 pub use jobs::{BoardsJob, CountJob, Failure, Job, PickJob, ShowJob, planned};
 pub use plans::Report;
-pub use request_types::{
+pub use requests::{
     Format, LabelName, Look, Notices, QuestionName, Questions, Request, Search, Show,
     StreamRequest, Style, When, Workers,
 };

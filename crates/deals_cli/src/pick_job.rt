@@ -4,9 +4,10 @@ ghost use Rattle.std.specs.Prelude.{◌≡◌, ◌-◌, ◌+◌, ◌^◌, ◌<�
 ghost use Rattle.jobs.specs.Failures.{CountsInput, faults_in, status_of};
 ghost use Rattle.deals_cli.specs.internal.Ends.{CountsPicked, EndsPicked, EndsPicking, FaultsPicked};
 
+use input::Source;
+use input::numbers::PickFault;
 use jobs::{Failure, PickJob};
 use notations::AnyPrinter;
-use picking::{PickFault, Source};
 use plans::Cause;
 use sinks::Sink;
 use std::alloc::{AllocError, Global};
@@ -28,7 +29,7 @@ fn pick_alone<I: Source, O: Sink>(
     ensures input { CountsPicked result (I.faults input.old) (I.faults input.new) }
 {
     let mut printer = AnyPrinter::showing(alloc, job.format, job.show, &job.heading)?;
-    let picked = picking::pick(&job.plan, &mut printer, input, out);
+    let picked = input::numbers::pick(&job.plan, &mut printer, input, out);
     // Here and not at each end, which would take room on the stack for each.
     drop(printer);
     match picked {
@@ -54,7 +55,7 @@ fn pick_with_tricks<I: Source, O: Sink>(
 {
     let none = Vec::new(alloc);
     let mut printer = AnyPrinter::with_tricks(alloc, job.format, job.show, &job.heading, 1, none)?;
-    let picked = told::pick(&job.plan, &mut printer, input, out);
+    let picked = input::tricks::pick(&job.plan, &mut printer, input, out);
     drop(printer);
     Ok(picked)
 }

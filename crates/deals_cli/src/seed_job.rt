@@ -5,9 +5,9 @@ ghost use Rattle.jobs.specs.Failures.{CountsInput, faults_in, status_of};
 ghost use Rattle.deals_cli.specs.internal.Ends.{EndsDraw};
 ghost use Rattle.sinks.specs.Sinks.{AppendsOrBreaksOff, CountsFault};
 
+use input::{BytesFault, Source, read_four};
 use itoa::Buffer;
 use jobs::Failure;
-use picking::{BytesFault, Source, read_four};
 use plans::Cause;
 use sinks::{Sink, SinkFault, put_all};
 

@@ -3,24 +3,24 @@
 
 ghost use Rattle.std.specs.Prelude.{◌≡◌, ◌-◌, ◌+◌, ◌^◌, ◌<◌, IfErr};
 ghost use Rattle.jobs.specs.Failures.{CountsInput, faults_in, status_of};
-ghost use Rattle.request_types.specs.Defaults.{workers_in};
+ghost use Rattle.requests.specs.Defaults.{workers_in};
 ghost use Rattle.deals_cli.specs.internal.Ends.{EndsFinding, EndsReady, finding_cause};
 
 use crate::workers::worked;
 use crate::written::{Written, write_plan};
-use boards::Format;
-use captions::Captions;
+use boards::{Captions, Format};
 use cond_lang::Cond;
+use input::Source;
+use input::numbers::PickFault;
+use input::tricks::{numbers_of, tell};
 use jobs::{BoardsJob, Failure};
 use notations::AnyPrinter;
-use picking::{PickFault, Source};
 use plans::{Cause, Plan, Report};
-use request_types::Workers;
+use requests::Workers;
 use sinks::{MemSink, Sink};
 use std::alloc::Global;
 use std::sync::Wait;
 use std::thread::Threads;
-use told::{numbers_of, tell};
 
 /// The numbers of the accepted candidates, and how many candidates that took.
 #[derive(Drop)]

@@ -1,11 +1,11 @@
 //! How many workers judge the candidates of a search.
 
 ghost use Rattle.std.specs.Prelude.{◌≡◌, ◌-◌, max, min};
-ghost use Rattle.request_types.specs.Defaults.{workers_in};
+ghost use Rattle.requests.specs.Defaults.{workers_in};
 ghost use Rattle.deals_cli.specs.internal.Ends.{IsWorked};
 
 use plans::Plan;
-use request_types::Workers;
+use requests::Workers;
 use std::thread::{self, Threads};
 
 /// Returns how many workers suit a process that may use this many cores: one fewer, so that the

@@ -9,11 +9,11 @@ use cond_lang::Cond;
 use dealrun::run_and_count;
 use lanes::OpenGate;
 use plans::{Cause, Plan};
+use screens::unmet::is_never;
 use sinks::Sink;
 use std::alloc::Global;
 use std::sync::{Arc, Wait};
 use std::thread::Threads;
-use unmet::is_never;
 
 /// How many candidates a run needed, and how many boards it wrote.
 #[derive(Clone, Copy, Drop)]

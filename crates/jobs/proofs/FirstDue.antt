@@ -1,5 +1,7 @@
 -- Which failure is due first.
-use Rattle.std.proofs.Common.{◌≡◌, ◌≢◌, ◌⊎◌, ◌<◌, ◌+◌, ◌^◌, ◌||◌, ◌==◌, ◌∙◌, ◌++◌, ℕ, zero, suc, Bool, true, false, List, [], ◌∷◌, Option, Some, refl, sym, ap, inl, inr, nat_lt, option_map, arith, eqb-true, if◌then◌else◌}
+use Rattle.std.proofs.Common.{◌≡◌, ◌≢◌, ◌⊎◌, ◌<◌, ◌+◌, ◌^◌, ◌||◌, ◌==◌, ◌∙◌, ◌++◌, ℕ, zero, suc, Bool, true, false}
+use Rattle.std.proofs.Common.{List, [], ◌∷◌, Option, Some, refl, sym, ap, inl, inr, nat_lt, option_map, arith}
+use Rattle.std.proofs.Common.{eqb-true, if◌then◌else◌}
 use Rattle.std.specs.Borrow.{Bor}
 use Rattle.std.proofs.lemmas.Bool.{eqb-false, ltb-true, ltb-false}
 use Rattle.cond_lang.specs.After.{IsDueAlone}
@@ -12,20 +14,24 @@ use Rattle.plans.specs.Refusals.{refusal_of}
 use Rattle.plans.specs.declared.plan.PlanError.{PlanError}
 use Rattle.plans.specs.declared.plan.PlanError.TheVariants.{Range, Workers, Capacity, Boards, FirstBoard}
 use Rattle.jobs.specs.Failures.{definitions_failure, failure_of, is_refusal, status_of}
-use Rattle.jobs.specs.FirstRefusal.{AreDue, AreRefused, HasCondition, IsCountDue, IsDueFor, IsDueRead, IsFirstHand, IsFirstOf, IsMakeDue, IsPickDue, IsPlanDue, IsShowDue, IsTextDue, IsTricksDue, Meets, of_labels, of_numbers}
-use Rattle.request_types.specs.Defaults.{candidates_of, workers_in}
+use Rattle.jobs.specs.FirstRefusal.{AreDue, AreRefused, HasCondition, IsCountDue, IsDueFor, IsDueRead, IsFirstHand}
+use Rattle.jobs.specs.FirstRefusal.{IsFirstOf, IsMakeDue, IsPickDue, IsPlanDue, IsShowDue, IsTextDue, IsTricksDue}
+use Rattle.jobs.specs.FirstRefusal.{Meets, of_labels, of_numbers}
+use Rattle.requests.specs.Defaults.{candidates_of, workers_in}
 use Rattle.jobs.specs.Makings.{HasLabels, HasNumbers, IsPlanned, Means}
-use Rattle.request_types.specs.Requests.{Look, Questions, Search, Wish, count, make, no_search, numbers_look, pick, plain_search, show}
+use Rattle.requests.specs.Requests.{Look, Questions, Search, Wish, count, make, no_search, numbers_look, pick, plain_search, show}
 use Rattle.jobs.specs.Jobs.{IsRefused}
 use Rattle.jobs.specs.Statuses.{IsStatusOf, parts_of}
 use Rattle.jobs.proofs.Statuses.{no_memory as out_of_memory, refused_meaning, refused_plan}
-use Rattle.request_types.specs.declared.request.Notices.{Notices}
-use Rattle.request_types.specs.declared.when.When.{When}
-use Rattle.request_types.specs.PredealtHands.{GivenHands}
+use Rattle.requests.specs.declared.request.Notices.{Notices}
+use Rattle.requests.specs.declared.when.When.{When}
+use Rattle.requests.specs.PredealtHands.{GivenHands}
 use Rattle.jobs.specs.declared.failure.Failure.{Failure}
-use Rattle.jobs.specs.declared.failure.Failure.TheVariants.{CommandLine, Plan, Label, Hand, Definitions, Condition, Question, Cells, Interrupted, Line, Record, Input, EndOfInput}
-use Rattle.request_types.specs.declared.names.LabelName.TheVariants.{Event, Site, Date}
-use Rattle.request_types.specs.declared.names.QuestionName.TheVariants.{Of, By}
+use Rattle.jobs.specs.declared.failure.Failure.TheVariants.{CommandLine, Plan, Label, Hand, Definitions, Condition}
+use Rattle.jobs.specs.declared.failure.Failure.TheVariants.{Question, Cells, Interrupted, Line, Record, Input}
+use Rattle.jobs.specs.declared.failure.Failure.TheVariants.{EndOfInput}
+use Rattle.requests.specs.declared.names.LabelName.TheVariants.{Event, Site, Date}
+use Rattle.requests.specs.declared.names.QuestionName.TheVariants.{Of, By}
 use Rattle.jobs.specs.Counting.{IsAsked}
 use Rattle.jobs.specs.internal.Conditions.{IsConditionFailure, IsDefinitionsFailure, IsTextFailure}
 use Rattle.jobs.specs.internal.QuestionFailures.{AreFailure}
@@ -42,7 +48,9 @@ positive (suc n) h = omega arith
 abbrev pub HasRun : Search → Look → Type 0
 HasRun s l = Meets s l (Plan Range) × Meets s l (Plan Workers) × Meets s l (Plan Capacity)
 
-pub plan_due : (s : Search) (l : Look) (e : PlanError) → e ≡ refusal_of s.first (candidates_of s) (workers_in s.workers) → (HasRun s l → ⊥) → IsFirstOf of_numbers s l (Plan e)
+pub plan_due : (s : Search) (l : Look) (e : PlanError)
+    → e ≡ refusal_of s.first (candidates_of s) (workers_in s.workers) → (HasRun s l → ⊥)
+    → IsFirstOf of_numbers s l (Plan e)
 plan_due s l e is not_so = rw is (at_range (nat_lt (2 ^ 40) (s.first + candidates_of s)) refl)
   where
     at_capacity : Meets s l (Plan Range) → Meets s l (Plan Workers) → IsFirstOf of_numbers s l (Plan Capacity)
@@ -60,7 +68,8 @@ plan_due s l e is not_so = rw is (at_range (nat_lt (2 ^ 40) (s.first + candidate
         at_capacity range (positive (workers_in s.workers) (eqb-false (workers_in s.workers) 0 none), ltb-false 16 (workers_in s.workers) many)
 
     at_range : (b : Bool) → nat_lt (2 ^ 40) (s.first + candidates_of s) ≡ b
-        → IsFirstOf of_numbers s l (Plan (if b then Range else (if (workers_in s.workers) == 0 || nat_lt 16 (workers_in s.workers) then Workers else Capacity)))
+        → IsFirstOf of_numbers s l (Plan (if b then Range else
+        (if (workers_in s.workers) == 0 || nat_lt 16 (workers_in s.workers) then Workers else Capacity)))
     at_range true e =
         let more = ltb-true (2 ^ 40) (s.first + candidates_of s) e in
         inl (refl, λ range. omega (arith, range, more))
@@ -71,7 +80,8 @@ pub boards_due : (s : Search) (l : Look) (most : ℕ) → HasRun s l → s.board
 boards_due s l most run given none =
     inr (run.0, inr (run.1, inr (run.2, inl (refl, λ sound. sound (given ∙ ap (λ (n : ℕ). Some n) none)))))
 
-pub first_board_due : (s : Search) (l : Look) → HasRun s l → (s.boards ≡ Some 0 → ⊥) → (Meets s l (Plan FirstBoard) → ⊥) → IsFirstOf of_numbers s l (Plan FirstBoard)
+pub first_board_due : (s : Search) (l : Look) → HasRun s l → (s.boards ≡ Some 0 → ⊥)
+    → (Meets s l (Plan FirstBoard) → ⊥) → IsFirstOf of_numbers s l (Plan FirstBoard)
 first_board_due s l run boards not_so =
     inr (run.0, inr (run.1, inr (run.2, inr (boards, inl (refl, not_so)))))
 
@@ -239,7 +249,8 @@ questions_refusal D q (Cells name) h = refl
 questions_refusal D q _ h = absurd h
 
 -- a `count` that was interrupted
-pub count_run_due : (s : Search) (q : Questions) (c : Cause) → IsPlanned s numbers_look → HasCondition s → (subject : Subject) → IsAsked s.let_text q subject → IsCountDue s q (Interrupted c)
+pub count_run_due : (s : Search) (q : Questions) (c : Cause) → IsPlanned s numbers_look → HasCondition s
+    → (subject : Subject) → IsAsked s.let_text q subject → IsCountDue s q (Interrupted c)
 count_run_due s q cause.Memory plan condition subject asked = plan
 count_run_due s q _ plan condition subject asked = (plan, condition, (subject, asked))
 
@@ -257,7 +268,8 @@ plan_refusal s l _ h = absurd h
 
 -- ---- before anything was done
 
-tricks_status : (s : Search) (l : Look) (notices : Notices) (n : ℕ) → IsStatusOf (make s l false notices) n → (n ≡ 7 → ⊥) → IsStatusOf (make s l true notices) n
+tricks_status : (s : Search) (l : Look) (notices : Notices) (n : ℕ) → IsStatusOf (make s l false notices) n
+    → (n ≡ 7 → ⊥) → IsStatusOf (make s l true notices) n
 tricks_status s l notices n h other = record {
   accepted = h.accepted;
   unplanned = h.unplanned;
@@ -276,7 +288,8 @@ refusal_status (Interrupted _) before h = cc
 refusal_status _ before h = omega (arith, h)
 
 -- what refuses a `make` refuses it with tricks too
-either_way : (s : Search) (l : Look) (tricks : Bool) (notices : Notices) (f : Failure) → IsRefused (make s l false notices) f → IsRefused (make s l tricks notices) f
+either_way : (s : Search) (l : Look) (tricks : Bool) (notices : Notices) (f : Failure)
+    → IsRefused (make s l false notices) f → IsRefused (make s l tricks notices) f
 either_way s l false notices f h = h
 either_way s l true notices f h = record {
   due = tricks_due s l f h.nothing_done h.due;
@@ -284,14 +297,16 @@ either_way s l true notices f h = record {
   nothing_done = h.nothing_done;
 }
 
-pub make_refused : (s : Search) (l : Look) (tricks : Bool) (notices : Notices) (f : Failure) → (status_of f ≡ 2) × (IsPlanned s l → ⊥) → IsPlanDue s l f → IsRefused (make s l tricks notices) f
+pub make_refused : (s : Search) (l : Look) (tricks : Bool) (notices : Notices) (f : Failure)
+    → (status_of f ≡ 2) × (IsPlanned s l → ⊥) → IsPlanDue s l f → IsRefused (make s l tricks notices) f
 make_refused s l tricks notices f refused due = either_way s l tricks notices f (record {
   due = make_plan_due s l f due;
   status = refused_plan (make s l false notices) (status_of f) refused.0 refused.1;
   nothing_done = plan_refusal s l f due;
 })
 
-pub pick_refused : (seed : ℕ) (hands : GivenHands) (l : Look) (tricks : Bool) (hints : When) (f : Failure) → (status_of f ≡ 2) × (IsPlanned (no_search seed hands) l → ⊥) → IsPlanDue (no_search seed hands) l f
+pub pick_refused : (seed : ℕ) (hands : GivenHands) (l : Look) (tricks : Bool) (hints : When) (f : Failure)
+    → (status_of f ≡ 2) × (IsPlanned (no_search seed hands) l → ⊥) → IsPlanDue (no_search seed hands) l f
     → IsRefused (pick seed hands l tricks hints) f
 pick_refused seed hands l tricks hints f refused due = record {
   due = pick_plan_due (no_search seed hands) l f due;
@@ -306,14 +321,16 @@ show_labels_due l f (inr (event, inl h)) = rw h.0 (inr (event, inl (refl, h.1)),
 show_labels_due l f (inr (event, inr (site, inl h))) = rw h.0 (inr (event, inr (site, inl (refl, h.1))), refl)
 show_labels_due l f (inr (event, inr (site, inr h))) = absurd h.1
 
-pub show_refused : (l : Look) (hints : When) (f : Failure) → (status_of f ≡ 2) × (HasLabels l → ⊥) → IsFirstOf of_labels (plain_search 0) l f → IsRefused (show l hints) f
+pub show_refused : (l : Look) (hints : When) (f : Failure) → (status_of f ≡ 2) × (HasLabels l → ⊥)
+    → IsFirstOf of_labels (plain_search 0) l f → IsRefused (show l hints) f
 show_refused l hints f refused due = record {
   due = (show_labels_due l f due).0;
   status = refused_plan (show l hints) (status_of f) refused.0 refused.1;
   nothing_done = (show_labels_due l f due).1;
 }
 
-pub count_refused : (s : Search) (q : Questions) (style : Style) (notices : Notices) (f : Failure) → (status_of f ≡ 2) × (IsPlanned s numbers_look → ⊥) → IsPlanDue s numbers_look f
+pub count_refused : (s : Search) (q : Questions) (style : Style) (notices : Notices) (f : Failure)
+    → (status_of f ≡ 2) × (IsPlanned s numbers_look → ⊥) → IsPlanDue s numbers_look f
     → IsRefused (count s q style notices) f
 count_refused s q style notices f refused due = record {
   due = count_plan_due s q f due;
@@ -322,12 +339,14 @@ count_refused s q style notices f refused due = record {
 }
 
 -- the status of what is refused after the plan
-refused_later : (w : Wish) (f : Failure) → (status_of f ≡ 5) ⊎ (status_of f ≡ 3) → (parts_of w).plan → ((parts_of w).meaning → status_of f ≡ 5) → IsStatusOf w (status_of f)
+refused_later : (w : Wish) (f : Failure) → (status_of f ≡ 5) ⊎ (status_of f ≡ 3) → (parts_of w).plan
+    → ((parts_of w).meaning → status_of f ≡ 5) → IsStatusOf w (status_of f)
 refused_later w f (inl is) plan memory = out_of_memory w (status_of f) is
 refused_later w f (inr is) plan memory =
     refused_meaning w (status_of f) is plan (λ meaning. let five : status_of f ≡ 5 = memory meaning in omega (arith, is, five))
 
-pub count_condition_refused : (s : Search) (q : Questions) (style : Style) (notices : Notices) (f : Failure) → IsPlanned s numbers_look → (status_of f ≡ 5) ⊎ (status_of f ≡ 3)
+pub count_condition_refused : (s : Search) (q : Questions) (style : Style) (notices : Notices) (f : Failure)
+    → IsPlanned s numbers_look → (status_of f ≡ 5) ⊎ (status_of f ≡ 3)
     → ((form : Form) → Means s form → status_of f ≡ 5) → IsConditionFailure s f → IsRefused (count s q style notices) f
 count_condition_refused s q style notices f plan status memory due = record {
   due = count_condition_due s q f plan due;
@@ -335,8 +354,10 @@ count_condition_refused s q style notices f plan status memory due = record {
   nothing_done = condition_refusal s f due;
 }
 
-pub questions_refused : (s : Search) (q : Questions) (style : Style) (notices : Notices) (f : Failure) → IsPlanned s numbers_look → (form : Form) → Means s form
-    → (status_of f ≡ 5) ⊎ (status_of f ≡ 3) → ((subject : Subject) → IsAsked s.let_text q subject → status_of f ≡ 5) → AreFailure s.let_text q f → IsRefused (count s q style notices) f
+pub questions_refused : (s : Search) (q : Questions) (style : Style) (notices : Notices) (f : Failure)
+    → IsPlanned s numbers_look → (form : Form) → Means s form
+    → (status_of f ≡ 5) ⊎ (status_of f ≡ 3) → ((subject : Subject) → IsAsked s.let_text q subject → status_of f ≡ 5)
+    → AreFailure s.let_text q f → IsRefused (count s q style notices) f
 questions_refused s q style notices f plan form means status memory due = record {
   due = by_failure due;
   status = refused_later (count s q style notices) f status plan (λ meaning. memory meaning.1.0 meaning.1.1);
@@ -351,7 +372,8 @@ questions_refused s q style notices f plan form means status memory due = record
     refusal (inl memory) = rw memory refl
     refusal (inr refused) = questions_refusal s.let_text q f refused
 
-pub meaning_refused : (s : Search) (l : Look) (tricks : Bool) (notices : Notices) (f : Failure) → IsPlanned s l → (status_of f ≡ 5) ⊎ (status_of f ≡ 3) → ((form : Form) → Means s form → status_of f ≡ 5)
+pub meaning_refused : (s : Search) (l : Look) (tricks : Bool) (notices : Notices) (f : Failure) → IsPlanned s l
+    → (status_of f ≡ 5) ⊎ (status_of f ≡ 3) → ((form : Form) → Means s form → status_of f ≡ 5)
     → IsConditionFailure s f → IsRefused (make s l tricks notices) f
 meaning_refused s l tricks notices f plan status memory due = either_way s l tricks notices f (record {
   due = condition_due s l f plan due;

@@ -7,7 +7,7 @@ use Rattle.jobs.specs.Failures.{status_of}
 use Rattle.jobs.specs.Makings.{BothMean, TextMeans}
 use Rattle.jobs.specs.declared.failure.Failure.{Failure}
 use Rattle.jobs.specs.internal.Conditions.{IsEitherFailure, IsTextFailure}
-use Rattle.request_types.specs.Requests.{Search}
+use Rattle.requests.specs.Requests.{Search}
 
 every_deal : Form
 every_deal = compare (number 0) Equal (number 0)
@@ -28,12 +28,14 @@ condition_memory (Some text) D None f h form means = h every_deal refl
 condition_memory (Some text) D (Some other) f h form means = h means.1 means.3
 
 -- the condition is refused after a lesson that means something
-pub condition_failure : (s : Search) (lesson : Form) (f : Failure) → TextMeans None s.lesson lesson → IsTextFailure s.let_text s.where_text f → IsEitherFailure s f
+pub condition_failure : (s : Search) (lesson : Form) (f : Failure) → TextMeans None s.lesson lesson
+    → IsTextFailure s.let_text s.where_text f → IsEitherFailure s f
 condition_failure s lesson f means (inl memory) = inl memory
 condition_failure s lesson f means (inr (error, is, due)) = inr (error, is, inr ((lesson, means), due))
 
 -- or without one
-pub failure_alone : (o : Option (Bor (List ℕ))) (s : Search) (f : Failure) → s.lesson ≡ option_map (λ t. t.now) o → is_some o ≡ false → IsTextFailure s.let_text s.where_text f → IsEitherFailure s f
+pub failure_alone : (o : Option (Bor (List ℕ))) (s : Search) (f : Failure) → s.lesson ≡ option_map (λ t. t.now) o
+    → is_some o ≡ false → IsTextFailure s.let_text s.where_text f → IsEitherFailure s f
 unfolding every_deal
 failure_alone None s f is none h = condition_failure s every_deal f (rw is refl) h
 failure_alone (Some text) s f is none h = absurd cc

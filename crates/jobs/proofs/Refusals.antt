@@ -32,7 +32,8 @@ refused_definitions Memory = inl refl
 
 -- a text that means something is refused only where memory ran out
 pub meant_status : (D : Option (List ℕ)) (o : Option (Bor (List ℕ))) (text : Bor (List ℕ)) (e : CondError) → o ≡ Some text
-    → ((f : Form) → TextMeans D (Some text.now) f → e ≡ Memory) → (f : Form) → TextMeans D (option_map (λ s. s.now) o) f → status_of (failure_of e) ≡ 5
+    → ((f : Form) → TextMeans D (Some text.now) f → e ≡ Memory) → (f : Form)
+    → TextMeans D (option_map (λ s. s.now) o) f → status_of (failure_of e) ≡ 5
 meant_status D o text e given memory f means =
     let here : TextMeans D (Some text.now) f = subst (λ (x : Option (Bor (List ℕ))). TextMeans D (option_map (λ s. s.now) x) f) given means in
     ap (λ x. status_of (failure_of x)) (memory f here)

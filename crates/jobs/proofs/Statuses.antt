@@ -3,13 +3,18 @@ use Rattle.std.proofs.Common.{◌≡◌, ◌⊎◌, ℕ, refl, inl, inr, arith}
 use Rattle.plans.specs.declared.cause.Cause.{Cause}
 use Rattle.plans.specs.declared.cause.Cause.TheVariants as cause
 use Rattle.jobs.specs.Failures.{status_of}
-use Rattle.request_types.specs.Requests.{Wish}
+use Rattle.requests.specs.Requests.{Wish}
 use Rattle.jobs.specs.Statuses.{IsStatusOf, parts_of}
 use Rattle.jobs.specs.declared.failure.Failure.TheVariants.{Interrupted}
 
 pub no_memory : (w : Wish) (s : ℕ) → s ≡ 5 → IsStatusOf w s
 no_memory w s is = record {
-  accepted = λ h. absurd (elim h [ inl a ↦ omega arith | inr (inl a) ↦ omega arith | inr (inr (inl a)) ↦ omega arith | inr (inr (inr a)) ↦ omega arith ]);
+  accepted = λ h. absurd (elim h [
+    | inl a ↦ omega arith
+    | inr (inl a) ↦ omega arith
+    | inr (inr (inl a)) ↦ omega arith
+    | inr (inr (inr a)) ↦ omega arith
+  ]);
   unplanned = λ h. absurd (omega arith);
   meaningless = λ h. absurd (omega arith);
   threads = λ h. absurd (omega arith);
@@ -18,7 +23,12 @@ no_memory w s is = record {
 
 pub refused_plan : (w : Wish) (s : ℕ) → s ≡ 2 → ((parts_of w).plan → ⊥) → IsStatusOf w s
 refused_plan w s is not_so = record {
-  accepted = λ h. absurd (elim h [ inl a ↦ omega arith | inr (inl a) ↦ omega arith | inr (inr (inl a)) ↦ omega arith | inr (inr (inr a)) ↦ omega arith ]);
+  accepted = λ h. absurd (elim h [
+    | inl a ↦ omega arith
+    | inr (inl a) ↦ omega arith
+    | inr (inr (inl a)) ↦ omega arith
+    | inr (inr (inr a)) ↦ omega arith
+  ]);
   unplanned = λ h. not_so;
   meaningless = λ h. absurd (omega arith);
   threads = λ h. absurd (omega arith);
@@ -27,7 +37,12 @@ refused_plan w s is not_so = record {
 
 pub refused_meaning : (w : Wish) (s : ℕ) → s ≡ 3 → (parts_of w).plan → ((parts_of w).meaning → ⊥) → IsStatusOf w s
 refused_meaning w s is plan not_so = record {
-  accepted = λ h. absurd (elim h [ inl a ↦ omega arith | inr (inl a) ↦ omega arith | inr (inr (inl a)) ↦ omega arith | inr (inr (inr a)) ↦ omega arith ]);
+  accepted = λ h. absurd (elim h [
+    | inl a ↦ omega arith
+    | inr (inl a) ↦ omega arith
+    | inr (inr (inl a)) ↦ omega arith
+    | inr (inr (inr a)) ↦ omega arith
+  ]);
   unplanned = λ h. absurd (omega arith);
   meaningless = λ h. (plan, not_so);
   threads = λ h. absurd (omega arith);

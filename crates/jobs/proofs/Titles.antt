@@ -5,10 +5,10 @@ use Rattle.boards.specs.Headings.{HeadingView}
 use Rattle.boards.specs.Labels.{IsLabel}
 use Rattle.boards.specs.declared.format.Format.{Format}
 use Rattle.boards.specs.declared.format.Format.TheVariants.{Pbn}
-use Rattle.captions.specs.Captions.{captions_in}
-use Rattle.captions.proofs.Tested.{labels_stay}
+use Rattle.boards.specs.Captions.{captions_in}
+use Rattle.boards.proofs.Tested.{labels_stay}
 use Rattle.jobs.specs.Makings.{CanLabel, HasLabels, heading_of, title_of}
-use Rattle.request_types.specs.Requests.{Look}
+use Rattle.requests.specs.Requests.{Look}
 
 if_given : (given : Option (List ℕ)) → CanLabel Pbn given → IfSome given IsLabel
 if_given None can = tt

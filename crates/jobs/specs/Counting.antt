@@ -7,8 +7,8 @@ use Rattle.conditions.specs.declared.limits.TheConstants.{MOST_PARTS}
 use Rattle.jobs.specs.Makings.{text_read}
 use Rattle.plans.specs.Plans.{Planned, candidate_of}
 use Rattle.plans.specs.Text.{accepted, end_of}
-use Rattle.request_types.specs.Requests.{Questions, each_question, no_question, one_question}
-use Rattle.request_types.specs.Requests.{two_questions}
+use Rattle.requests.specs.Requests.{Questions, each_question, no_question, one_question}
+use Rattle.requests.specs.Requests.{two_questions}
 use Rattle.statistics.specs.Counting.{Asked, Subject, by_each, by_one, by_two, cells_of}
 use Rattle.statistics.specs.Counting.{count_text, deals_alone, title_of}
 use Rattle.statistics.specs.Json.{string_of}

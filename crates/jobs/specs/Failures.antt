@@ -8,7 +8,7 @@ use Rattle.jobs.specs.declared.failure.Failure.TheVariants.{CommandLine, Plan, L
 use Rattle.jobs.specs.declared.failure.Failure.TheVariants.{Definitions, Condition, Question}
 use Rattle.jobs.specs.declared.failure.Failure.TheVariants.{Cells, Interrupted}
 use Rattle.jobs.specs.declared.failure.Failure.TheVariants.{Line, Record, Input, EndOfInput}
-use Rattle.request_types.specs.declared.names.QuestionName.{QuestionName}
+use Rattle.requests.specs.declared.names.QuestionName.{QuestionName}
 
 -- the exit status of a failure
 abbrev pub status_of : Failure → ℕ

@@ -8,27 +8,27 @@ use Rattle.cond_lang.specs.Form.{Form}
 use Rattle.conditions.specs.declared.error.CondError.{CondError}
 use Rattle.conditions.specs.declared.error.CondError.TheVariants.{Memory as no_memory}
 use Rattle.plans.specs.declared.cause.Cause.TheVariants.{Memory, Output}
-use Rattle.request_types.specs.PredealtHands.{first_refused}
+use Rattle.requests.specs.PredealtHands.{first_refused}
 use Rattle.plans.specs.declared.plan.PlanError.TheVariants.{Range, Workers, Capacity, Boards}
 use Rattle.plans.specs.declared.plan.PlanError.TheVariants.{FirstBoard}
 use Rattle.jobs.specs.Counting.{Asks, IsAsked, IsQuestion}
 use Rattle.jobs.specs.Makings.{CanDate, CanLabel, HasLabels, HasNumbers}
-use Rattle.request_types.specs.Defaults.{candidates_of, first_board_of}
+use Rattle.requests.specs.Defaults.{candidates_of, first_board_of}
 use Rattle.jobs.specs.Makings.{IsPlanned, MayBeGiven, Means, TextMeans}
-use Rattle.request_types.specs.Defaults.{lane_of, workers_in}
-use Rattle.request_types.specs.Requests.{Look, Questions, Search, Wish, count, draw}
-use Rattle.request_types.specs.Requests.{lessons}
-use Rattle.request_types.specs.Requests.{each_question, make, no_question, no_search, numbers_look, one_question}
-use Rattle.request_types.specs.Requests.{pick, plain_search, show, two_questions}
+use Rattle.requests.specs.Defaults.{lane_of, workers_in}
+use Rattle.requests.specs.Requests.{Look, Questions, Search, Wish, count, draw}
+use Rattle.requests.specs.Requests.{lessons}
+use Rattle.requests.specs.Requests.{each_question, make, no_question, no_search, numbers_look, one_question}
+use Rattle.requests.specs.Requests.{pick, plain_search, show, two_questions}
 use Rattle.jobs.specs.declared.failure.Failure.{Failure}
 use Rattle.jobs.specs.declared.failure.Failure.TheVariants.{Plan, Label, Hand}
 use Rattle.jobs.specs.declared.failure.Failure.TheVariants.{Cells, Condition, Definitions}
 use Rattle.jobs.specs.declared.failure.Failure.TheVariants.{Question}
 use Rattle.jobs.specs.declared.failure.Failure.TheVariants.{Interrupted, Line, Record, Input}
 use Rattle.jobs.specs.declared.failure.Failure.TheVariants.{EndOfInput}
-use Rattle.request_types.specs.declared.names.LabelName.TheVariants.{Event, Site, Date}
-use Rattle.request_types.specs.declared.names.QuestionName.{QuestionName}
-use Rattle.request_types.specs.declared.names.QuestionName.TheVariants.{Of, By}
+use Rattle.requests.specs.declared.names.LabelName.TheVariants.{Event, Site, Date}
+use Rattle.requests.specs.declared.names.QuestionName.{QuestionName}
+use Rattle.requests.specs.declared.names.QuestionName.TheVariants.{Of, By}
 use Rattle.statistics.specs.Counting.{Asked, Subject, cells_of}
 
 -- what a plan has to meet, by the refusal that says that it doesn't

@@ -1,6 +1,6 @@
 -- What is ready to be done for a wish, and what refuses it.
 use Rattle.std.specs.Prelude.{◌≡◌, Bool, string_bytes, true}
-use Rattle.lessons.specs.Lessons.{lessons_text}
+use Rattle.requests.specs.Lessons.{lessons_text}
 use Rattle.jobs.specs.Counting.{IsAsked}
 use Rattle.jobs.specs.Failures.{is_refusal, status_of}
 use Rattle.jobs.specs.FirstRefusal.{IsDueFor}
@@ -11,10 +11,10 @@ use Rattle.jobs.specs.declared.failure.Failure.{Failure}
 use Rattle.jobs.specs.declared.job.Job.{Job}
 use Rattle.jobs.specs.declared.job.Job.TheVariants.{Boards, Conditions, Count, Lessons, Pick, Seed}
 use Rattle.jobs.specs.declared.job.Job.TheVariants.{Show, Stream}
-use Rattle.request_types.specs.Requests.{Look, Search, Wish, conditions, count, draw, make}
-use Rattle.request_types.specs.Requests.{lessons, no_search, numbers_look}
-use Rattle.request_types.specs.Requests.{pick, show, stream}
-use Rattle.request_types.specs.declared.request.Notices.{Notices}
+use Rattle.requests.specs.Requests.{Look, Search, Wish, conditions, count, draw, make}
+use Rattle.requests.specs.Requests.{lessons, no_search, numbers_look}
+use Rattle.requests.specs.Requests.{pick, show, stream}
+use Rattle.requests.specs.declared.request.Notices.{Notices}
 use Rattle.statistics.specs.Subjects.{subject_of}
 
 -- the job does what is wished for: its plan, its labels, its hands, its condition and its questions

@@ -13,13 +13,13 @@ use Rattle.plans.specs.declared.plan.PlanError.{PlanError}
 use Rattle.plans.specs.declared.plan.PlanError.TheVariants as plan
 use Rattle.jobs.specs.declared.failure.Failure.{Failure}
 use Rattle.jobs.specs.declared.failure.Failure.TheVariants as failure
-use Rattle.records.specs.declared.fault.RecordFault.{RecordFault}
-use Rattle.records.specs.declared.fault.RecordFault.TheVariants as record_fault
-use Rattle.records.specs.declared.fault.RefusedRecord.{RefusedRecord}
-use Rattle.request_types.specs.declared.names.QuestionName.{QuestionName}
-use Rattle.request_types.specs.declared.names.QuestionName.TheVariants.{Of, By}
-use Rattle.request_types.specs.declared.names.LabelName.{LabelName}
-use Rattle.request_types.specs.declared.names.LabelName.TheVariants as label
+use Rattle.input.specs.declared.records.fault.RecordFault.{RecordFault}
+use Rattle.input.specs.declared.records.fault.RecordFault.TheVariants as record_fault
+use Rattle.input.specs.declared.records.fault.RefusedRecord.{RefusedRecord}
+use Rattle.requests.specs.declared.names.QuestionName.{QuestionName}
+use Rattle.requests.specs.declared.names.QuestionName.TheVariants.{Of, By}
+use Rattle.requests.specs.declared.names.LabelName.{LabelName}
+use Rattle.requests.specs.declared.names.LabelName.TheVariants as label
 
 abbrev pub plan_line : PlanError → List ℕ
 plan_line plan.Range = codes "plan refused: range\n"

@@ -8,16 +8,16 @@ use Rattle.cond_lang.specs.After.{GivesNames, text_after}
 use Rattle.cond_lang.specs.Text.{SpellsTree}
 use Rattle.conditions.specs.declared.limits.TheConstants.{MOST_PARTS}
 use Rattle.conditions.specs.declared.tree.Op.TheVariants.{Equal}
-use Rattle.request_types.specs.PredealtHands.{first_refused, fixed_of}
+use Rattle.requests.specs.PredealtHands.{first_refused, fixed_of}
 use Rattle.boards.specs.Labels.{IsDate, IsLabel}
 use Rattle.boards.specs.declared.format.Format.{Format}
 use Rattle.boards.specs.declared.format.Format.TheVariants.{Pbn}
-use Rattle.captions.specs.Captions.{captions_in, is_caption, labels_of}
+use Rattle.boards.specs.Captions.{captions_in, is_caption, labels_of}
 use Rattle.plans.specs.Plans.{Planned}
-use Rattle.request_types.specs.Defaults.{candidates_of, first_board_of, lane_of, workers_in}
-use Rattle.request_types.specs.Requests.{Look, Search}
-use Rattle.request_types.specs.declared.workers.Workers.{Workers}
-use Rattle.request_types.specs.declared.workers.Workers.TheVariants.{Number, Auto}
+use Rattle.requests.specs.Defaults.{candidates_of, first_board_of, lane_of, workers_in}
+use Rattle.requests.specs.Requests.{Look, Search}
+use Rattle.requests.specs.declared.workers.Workers.{Workers}
+use Rattle.requests.specs.declared.workers.Workers.TheVariants.{Number, Auto}
 
 -- how many workers a run has: what is asked for; with `auto` some number from 1 to 16
 abbrev pub AreWorkers : Workers → ℕ → Type 0

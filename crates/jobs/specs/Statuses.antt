@@ -3,8 +3,8 @@ use Rattle.std.specs.Prelude.{◌≡◌, ◌⊎◌, ℕ, [], ◌∷◌, Contains
 use Rattle.cond_lang.specs.Form.{Form}
 use Rattle.jobs.specs.Counting.{IsAsked}
 use Rattle.jobs.specs.Makings.{HasLabels, IsPlanned, Means}
-use Rattle.request_types.specs.Requests.{Wish, count, draw, make, no_search, numbers_look, pick}
-use Rattle.request_types.specs.Requests.{show}
+use Rattle.requests.specs.Requests.{Wish, count, draw, make, no_search, numbers_look, pick}
+use Rattle.requests.specs.Requests.{show}
 use Rattle.statistics.specs.Counting.{Subject}
 
 -- what a wish has

@@ -1,13 +1,12 @@
 //! The job of a `make` or a `find`.
 
 ghost use Rattle.std.specs.Prelude.{◌≡◌};
-ghost use Rattle.request_types.specs.Defaults.{workers_in};
+ghost use Rattle.requests.specs.Defaults.{workers_in};
 
-use boards::{Format, Show};
-use captions::Captions;
+use boards::{Captions, Format, Show};
 use cond_lang::Cond;
 use plans::Plan;
-use request_types::Workers;
+use requests::Workers;
 
 /// A run: the boards of the accepted ones among a plan's candidates.
 #[derive(Drop)]

@@ -2,14 +2,14 @@
 
 ghost use Rattle.std.specs.Prelude.{◌≡◌, ◌≤◌, ◌^◌};
 ghost use Rattle.boards.specs.Settings.{by_law};
-ghost use Rattle.request_types.specs.Defaults.{workers_in};
+ghost use Rattle.requests.specs.Defaults.{workers_in};
 ghost use Rattle.statistics.specs.Counting.{cells_of};
 ghost use Rattle.statistics.specs.Subjects.{subject_of};
 
 use boards::Style;
 use cond_lang::Cond;
 use plans::Plan;
-use request_types::Workers;
+use requests::Workers;
 use statistics::Subject;
 
 /// A table of what the accepted ones among a plan's candidates answer.

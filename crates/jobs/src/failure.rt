@@ -15,9 +15,9 @@ ghost use Rattle.sinks.specs.Messages.{text_of};
 
 use cards::Seat;
 use cond_lang::CondError;
+use input::records::{RecordFault, RefusedRecord};
 use plans::{Cause, LineFault, PlanError, RefusedLine};
-use records::{RecordFault, RefusedRecord};
-use request_types::{LabelName, QuestionName};
+use requests::{LabelName, QuestionName};
 use sinks::{Message, Sink, SinkFault};
 use std::alloc::AllocError;
 

@@ -2,20 +2,19 @@
 
 ghost use Rattle.std.specs.Prelude.{IfErr, IfOk};
 ghost use Rattle.jobs.specs.Jobs.{IsReady, IsReadyRun, IsRefused};
-ghost use Rattle.request_types.specs.Requests.{count, look_of, make};
-ghost use Rattle.request_types.specs.Requests.{questions_of, search_of, wish_of};
-ghost use Rattle.request_types.specs.declared.request.Notices.{Notices as ANotices};
+ghost use Rattle.requests.specs.Requests.{count, look_of, make};
+ghost use Rattle.requests.specs.Requests.{questions_of, search_of, wish_of};
+ghost use Rattle.requests.specs.declared.request.Notices.{Notices as ANotices};
 
 use crate::boards_job::BoardsJob;
 use crate::count_job::CountJob;
 use crate::failure::Failure;
 use crate::questions::read_subject;
 use crate::search::{planned, read_condition, read_heading};
-use boards::{Format, Show, Style};
-use captions::Captions;
-use lessons::page;
+use boards::{Captions, Format, Show, Style};
 use plans::Plan;
-use request_types::{Look, Notices, Questions, Request, Search, StreamRequest};
+use requests::lessons::page;
+use requests::{Look, Notices, Questions, Request, Search, StreamRequest};
 use std::alloc::Global;
 
 /// What is ready to be done, and was asked for by a request.

@@ -5,7 +5,7 @@ ghost use Rattle.cards.specs.declared.seat.Seat.{Seat};
 ghost use Rattle.cond_lang.specs.Form.{Form};
 ghost use Rattle.conditions.specs.Meaning.{holds};
 ghost use Rattle.jobs.specs.Makings.{HasLabels, Means, TextMeans, heading_of, title_of};
-ghost use Rattle.request_types.specs.Requests.{Look as ALook, Search as ASearch};
+ghost use Rattle.requests.specs.Requests.{Look as ALook, Search as ASearch};
 
 /// With a lesson and a condition, each a text of its own of which only the condition is after the
 /// definitions, a deal is accepted if and only if both

@@ -1,6 +1,6 @@
 //! What requests mean: the job that each asks for, or the failure that refuses it.
 //!
-//! A `Request` is what the words ask for (`request_types`). `prepare` makes a `Job` of it, or
+//! A `Request` is what the words ask for (`requests`). `prepare` makes a `Job` of it, or
 //! refuses it. How the words of a command line become a request isn't known here, and neither is
 //! how a job is done (`deals_cli`).
 #![tactic(auto)]

@@ -9,14 +9,14 @@ ghost use Rattle.jobs.specs.Counting.{AskEach, Asks, IsAsked, IsQuestion};
 ghost use Rattle.jobs.specs.Failures.{status_of};
 ghost use Rattle.jobs.specs.FirstRefusal.{IsDueAsked, last_of};
 ghost use Rattle.jobs.specs.Makings.{MayBeGiven, text_read};
-ghost use Rattle.request_types.specs.Requests.{each_question, questions_of, texts_of};
+ghost use Rattle.requests.specs.Requests.{each_question, questions_of, texts_of};
 ghost use Rattle.jobs.specs.internal.QuestionFailures.{AreFailure, IsTextFailure};
 ghost use Rattle.statistics.specs.Counting.{Asked as AnAsked, Subject as ASubject};
 ghost use Rattle.statistics.specs.Subjects.{subject_of};
 
 use crate::failure::Failure;
 use cond_lang::{CondError, Question, parse_question, parse_question_after};
-use request_types::{MAX_QUESTIONS, QuestionName, Questions, Texts};
+use requests::{MAX_QUESTIONS, QuestionName, Questions, Texts};
 use statistics::{Asked, Subject};
 use std::alloc::{AllocError, Global};
 

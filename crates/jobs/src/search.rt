@@ -7,8 +7,8 @@ ghost use Rattle.jobs.specs.Makings.{BothMean, MayBeGiven, Means, TextMeans, Can
 ghost use Rattle.jobs.specs.Makings.{HasLabels, HasHands, IsTitle};
 ghost use Rattle.jobs.specs.Makings.{HasNumbers};
 ghost use Rattle.jobs.specs.Makings.{IsPlanned, heading_of, plan_of, setting_of};
-ghost use Rattle.request_types.specs.PredealtHands.{fixed_of};
-ghost use Rattle.request_types.specs.Requests.{Search as ASearch, look_of, search_of};
+ghost use Rattle.requests.specs.PredealtHands.{fixed_of};
+ghost use Rattle.requests.specs.Requests.{Search as ASearch, look_of, search_of};
 ghost use Rattle.jobs.specs.internal.Conditions.{IsConditionFailure, IsDefinitionsFailure};
 ghost use Rattle.jobs.specs.internal.Conditions.{IsEitherFailure, IsTextFailure};
 ghost use Rattle.jobs.specs.FirstRefusal.{IsDueRead, IsFirstOf, of_labels, IsFirstHand, IsPlanDue};
@@ -18,12 +18,11 @@ ghost use Rattle.cards.specs.Fixed.{none_fixed};
 ghost use Rattle.boards.specs.Headings.{no_heading};
 
 use crate::failure::Failure;
-use boards::{Date, Format, Label, Setting};
-use captions::{Caption, Captions};
+use boards::{Caption, Captions, Date, Format, Label, Setting};
 use cards::Fixed;
 use cond_lang::{Cond, CondError, check_definitions, parse, parse_after};
 use plans::{Plan, PlanError};
-use request_types::{LabelName, Look, Search};
+use requests::{LabelName, Look, Search};
 use std::alloc::Global;
 
 /// Accepts definitions alone, where some are given.

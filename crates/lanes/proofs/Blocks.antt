@@ -1,5 +1,6 @@
 -- The verdicts of a block, and those that were taken before them.
-use Rattle.std.proofs.Common.{ℕ, ◌+◌, ◌-◌, ◌≤◌, ◌<◌, ◌≡◌, List, [], ◌∷◌, ◌++◌, length, take, drop, sym, refl, subst, ◌∙◌, ap, arith, get_or, Bool, true, false}
+use Rattle.std.proofs.Common.{ℕ, ◌+◌, ◌-◌, ◌≤◌, ◌<◌, ◌≡◌, List, [], ◌∷◌, ◌++◌, length, take, drop, sym, refl, subst}
+use Rattle.std.proofs.Common.{◌∙◌, ap, arith, get_or, Bool, true, false}
 use Rattle.std.proofs.lemmas.List.{at_drop_more, get_or-take, length-drop, length-take-le, take_at}
 use Rattle.std.proofs.lemmas.List.{length-append, append_assoc, length-map, map-append, take-map}
 use Rattle.lanes.specs.Slots.{SlotView, verdict_in, verdicts_in}
@@ -58,6 +59,7 @@ pub verdicts-more : (slots : List SlotView) (slot : SlotView) → verdicts_in (s
 verdicts-more slots slot = map-append verdict_in slots (slot ∷ [])
 
 -- a list with the verdicts of a part of the slots is a beginning of it with those of all
-pub proper_with_slots : (xs ys : List Verdict) (slots : List SlotView) (i : ℕ) → xs ≡ ys ++ verdicts_in (take i slots) → i < length slots → IsProperPrefix xs (ys ++ verdicts_in slots)
+pub proper_with_slots : (xs ys : List Verdict) (slots : List SlotView) (i : ℕ) → xs ≡ ys ++ verdicts_in (take i slots)
+    → i < length slots → IsProperPrefix xs (ys ++ verdicts_in slots)
 proper_with_slots xs ys slots i is below =
     proper_with xs ys (verdicts_in slots) i (is ∙ ap (λ zs. ys ++ zs) (sym (take-map verdict_in i slots))) (rw (length-map slots verdict_in) below)

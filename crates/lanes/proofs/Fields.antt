@@ -16,10 +16,13 @@ use Rattle.lanes.proofs.Steps.{sound_changed, after_allowed, may_take}
 one_counter : (xs : List ℕ) (n v : ℕ) → v < n → take n (set xs v (get_or xs v 0 + 1)) ≡ set (take n xs) v (get_or (take n xs) v 0 + 1)
 one_counter xs n v lt = take-set-lt n xs v (get_or xs v 0 + 1) lt ∙ ap (λ k. set (take n xs) v (k + 1)) (sym (get_or-take n xs v 0 lt))
 
-pub send_fields : (c : Inside) (v : ℕ) → v < c.workers → machine_of (record c { sent = set c.sent v (get_or c.sent v 0 + 1) }) ≡ changed (machine_of c) (Send v)
+pub send_fields : (c : Inside) (v : ℕ) → v < c.workers
+    → machine_of (record c { sent = set c.sent v (get_or c.sent v 0 + 1) }) ≡ changed (machine_of c) (Send v)
 send_fields c v lt = ap (λ xs. record (machine_of c) { sent = xs }) (one_counter c.sent c.workers v lt)
 
-pub take_fields : (c : Inside) (v : ℕ) → v < c.workers → v ≡ next_lane (machine_of c) → machine_of (record c { taken = set c.taken v (get_or c.taken v 0 + 1); turn = c.turn + 1 }) ≡ changed (machine_of c) Take
+pub take_fields : (c : Inside) (v : ℕ) → v < c.workers → v ≡ next_lane (machine_of c)
+    → machine_of (record c { taken = set c.taken v (get_or c.taken v 0 + 1); turn = c.turn + 1 }) ≡ changed
+    (machine_of c) Take
 take_fields c v lt is =
     let m = machine_of c in
     ap (λ xs. record m { taken = xs; turn = m.turn + 1 }) (one_counter c.taken c.workers v lt)
@@ -29,7 +32,9 @@ pub close_fields : (c : Inside) (v : ℕ) → v < c.workers → machine_of (reco
 close_fields c v lt = ap (λ xs. record (machine_of c) { closed = xs }) (take-set-lt c.workers c.closed v true lt)
 
 -- of fields after an event: what the type keeps, and what the contract says
-pub keeps : (c d : Inside) (e : Event) → IsCore c → is_allowed (machine_of c) e ≡ true → machine_of d ≡ changed (machine_of c) e → d.count ≡ c.count → d.workers ≡ c.workers → d.capacity ≡ c.capacity → IsCore d
+pub keeps : (c d : Inside) (e : Event) → IsCore c → is_allowed (machine_of c) e ≡ true
+    → machine_of d ≡ changed (machine_of c) e → d.count ≡ c.count → d.workers ≡ c.workers → d.capacity ≡ c.capacity
+    → IsCore d
 keeps c d e h allowed is count workers capacity = record {
   few = omega (arith, h.few, count);
   lanes = omega (arith, h.lanes, workers);
@@ -37,7 +42,8 @@ keeps c d e h allowed is count workers capacity = record {
   sound = subst IsSound (sym is) (sound_changed (machine_of c) e allowed h.room h.sound);
 }
 
-pub tells : (c d : Inside) (m : Machine) (e : Event) → machine_of c ≡ m → is_allowed m e ≡ true → machine_of d ≡ changed (machine_of c) e → machine_of d ≡ after m e
+pub tells : (c d : Inside) (m : Machine) (e : Event) → machine_of c ≡ m → is_allowed m e ≡ true
+    → machine_of d ≡ changed (machine_of c) e → machine_of d ≡ after m e
 tells c d m e view allowed is = is ∙ ap (λ n. changed n e) view ∙ after_allowed m e allowed
 
 -- an item that is taken is one of the candidates
@@ -59,7 +65,17 @@ allows c m e view allowed = subst (λ (n : Machine). is_allowed n e ≡ true) (s
 
 -- a core of which nothing was sent yet
 pub new_fields : (count W capacity : ℕ) → W ≤ 16
-    → machine_of (record { count = count; workers = W; capacity = capacity; sent = replicate 16 0; taken = replicate 16 0; closed = replicate 16 false; stopped = false; turn = 0 }) ≡ new_machine count W capacity
+    → machine_of (record {
+      count = count;
+      workers = W;
+      capacity = capacity;
+      sent = replicate 16 0;
+      taken =
+          replicate 16 0;
+      closed = replicate 16 false;
+      stopped = false;
+      turn = 0;
+    }) ≡ new_machine count W capacity
 new_fields count W capacity few =
     let m = new_machine count W capacity in
     let zeros : take W (replicate 16 0) ≡ replicate {A = ℕ} W 0 = take-replicate W 16 0 few in

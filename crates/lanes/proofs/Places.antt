@@ -1,5 +1,6 @@
 -- The numbers below n that leave w modulo W, and how far apart they are.
-use Rattle.std.proofs.Common.{ℕ, zero, suc, ◌+◌, ◌*◌, ◌/◌, ◌%◌, ◌<◌, ◌≤◌, ◌≡◌, ◌==◌, cond, true, false, Bool, List, [], ◌∷◌, ◌++◌, length, get_or, map, refl, sym, ◌∙◌, ap, arith, mul_comm, map-id}
+use Rattle.std.proofs.Common.{ℕ, zero, suc, ◌+◌, ◌*◌, ◌/◌, ◌%◌, ◌<◌, ◌≤◌, ◌≡◌, ◌==◌, cond, true, false, Bool, List}
+use Rattle.std.proofs.Common.{[], ◌∷◌, ◌++◌, length, get_or, map, refl, sym, ◌∙◌, ap, arith, mul_comm, map-id}
 use Rattle.std.specs.List.{filter, range_with_len}
 use Rattle.std.proofs.lemmas.Grind.{common_steps}
 use Rattle.std.proofs.lemmas.Bool.Decides.{nat_tests}
@@ -13,7 +14,8 @@ use Rattle.lanes.specs.Verdicts.{turns}
 pub range-more : (n : ℕ) → range_with_len 0 (suc n) ≡ range_with_len 0 n ++ n ∷ []
 range-more n =
     let e : suc n ≡ n + 1 = omega arith in
-    ap (range_with_len 0) e ∙ sym (map-id (range_with_len 0 (n + 1))) ∙ map-range_with_len_more (λ i. i) 0 n n (omega arith) ∙ ap (λ xs. xs ++ n ∷ []) (map-id (range_with_len 0 n))
+    ap (range_with_len 0) e ∙ sym (map-id (range_with_len 0 (n + 1)))
+    ∙ map-range_with_len_more (λ i. i) 0 n n (omega arith) ∙ ap (λ xs. xs ++ n ∷ []) (map-id (range_with_len 0 n))
 
 -- the numbers below n that leave w modulo W, in order
 unfoldable pub places : ℕ → ℕ → ℕ → List ℕ
@@ -43,7 +45,8 @@ turns-none W w = refl
 
 pub turns-more : (W w n : ℕ) → turns W w (suc n) ≡ cond (n % W == w) (turns W w n + 1) (turns W w n)
 turns-more W w n =
-    sym (length-places W w (suc n)) ∙ ap length (places-more W w n) ∙ length_more (n % W == w) (places W w n) n ∙ ap (λ t. cond (n % W == w) (t + 1) t) (length-places W w n)
+    sym (length-places W w (suc n)) ∙ ap length (places-more W w n) ∙ length_more (n % W == w) (places W w n) n
+    ∙ ap (λ t. cond (n % W == w) (t + 1) t) (length-places W w n)
 
 -- the two bounds that fix how many numbers below n leave w
 pub record Bounds (W w n t : ℕ) : Type 0 where

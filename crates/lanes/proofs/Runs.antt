@@ -1,5 +1,6 @@
 -- What holds after a list of events.
-use Rattle.std.proofs.Common.{◌≡◌, ℕ, suc, ◌+◌, ◌*◌, ◌/◌, ◌%◌, ◌==◌, ◌&&◌, ◌<◌, ◌≤◌, ◌⊎◌, true, false, List, [], ◌∷◌, ◌++◌, get_or, set, map, refl, sym, ◌∙◌, ap, subst, arith, inl, inr}
+use Rattle.std.proofs.Common.{◌≡◌, ℕ, suc, ◌+◌, ◌*◌, ◌/◌, ◌%◌, ◌==◌, ◌&&◌, ◌<◌, ◌≤◌, ◌⊎◌, true, false, List, [], ◌∷◌}
+use Rattle.std.proofs.Common.{◌++◌, get_or, set, map, refl, sym, ◌∙◌, ap, subst, arith, inl, inr}
 use Rattle.std.specs.List.{range_with_len}
 use Rattle.std.proofs.lemmas.Grind.{common_steps}
 use Rattle.std.proofs.lemmas.Bool.{cases_eq, cases_Bool, and_parts, and_from, eqb-true, eq-eqb, cond-true, cond-false, both_ways, false_from_ne_true}
@@ -56,7 +57,8 @@ pub item_in_turn : (m : Machine) → Kept m → item_of m.workers (next_lane m) 
 item_in_turn m kept =
     let v : ℕ = next_lane m in
     let rem : m.turn % m.workers < m.workers = omega (arith, kept.shape.some) in
-    ap (λ t. v + t * m.workers) (kept.lanes v rem).in_turn ∙ sym (same_place m.workers v m.turn (turns m.workers v m.turn) rem (bounds m.workers v m.turn rem) refl)
+    ap (λ t. v + t * m.workers) (kept.lanes v rem).in_turn
+    ∙ sym (same_place m.workers v m.turn (turns m.workers v m.turn) rem (bounds m.workers v m.turn rem) refl)
 
 -- one event takes the item whose turn it is, or none
 TakesNext : Machine → Event → Type 0
@@ -75,7 +77,11 @@ takes_next m (Send v) kept = inr (refl, no_turn m (Send v) refl)
 takes_next m Take kept =
     let item : ℕ = item_of m.workers (next_lane m) (taken_of m (next_lane m)) in
     elim (cases_Bool (is_allowed m Take)) [
-      | inl allowed ↦ inl (cond-true (is_allowed m Take) (item ∷ []) [] allowed ∙ ap (λ k. k ∷ []) (item_in_turn m kept), ap (λ (n : Machine). n.turn) (sym (after_allowed m Take allowed)))
+      | inl allowed ↦ inl (
+        cond-true (is_allowed m Take) (item ∷ []) [] allowed
+            ∙ ap (λ k. k ∷ []) (item_in_turn m kept),
+        ap (λ (n : Machine). n.turn) (sym (after_allowed m Take allowed)),
+      )
       | inr refused ↦ inr (cond-false (is_allowed m Take) (item ∷ []) [] refused, ap (λ (n : Machine). n.turn) (sym (after_refused m Take refused)))
     ]
 takes_next m (Close v) kept = inr (refl, no_turn m (Close v) refl)
@@ -97,7 +103,8 @@ takes_in_order (e ∷ events) m kept =
       | inl takes ↦ record {
         more = suc rest.more;
         to_is = omega (arith, rest.to_is, takes.1);
-        items_are = ap (λ xs. xs ++ items_taken n events) takes.0 ∙ ap (λ xs. m.turn ∷ xs) (rest.items_are ∙ ap (λ t. range_with_len t rest.more) takes.1);
+        items_are = ap (λ xs. xs ++ items_taken n events) takes.0
+            ∙ ap (λ xs. m.turn ∷ xs) (rest.items_are ∙ ap (λ t. range_with_len t rest.more) takes.1);
       }
       | inr none ↦ record {
         more = rest.more;
@@ -114,7 +121,8 @@ taken_from_new events m kept none =
 
 -- one event sends the next item of worker w, or none of them
 SendsNext : ℕ → Machine → Event → Type 0
-SendsNext w m e = ((sent_in w m e ≡ item_of m.workers w (sent_of m w) ∷ []) × (sent_of (after m e) w ≡ sent_of m w + 1)) ⊎ ((sent_in w m e ≡ []) × (sent_of (after m e) w ≡ sent_of m w))
+SendsNext w m e = ((sent_in w m e ≡ item_of m.workers w (sent_of m w) ∷ [])
+    × (sent_of (after m e) w ≡ sent_of m w + 1)) ⊎ ((sent_in w m e ≡ []) × (sent_of (after m e) w ≡ sent_of m w))
 
 none_sent : (w : ℕ) (m : Machine) (e : Event) → sent_of (changed m e) w ≡ sent_of m w → sent_of (after m e) w ≡ sent_of m w
 none_sent w m e h =
@@ -128,10 +136,15 @@ unfolding SendsNext
 sends_own w v m kept lt allowed is =
     let new : ℕ = sent_of m v + 1 in
     let item : ℕ = item_of m.workers w (sent_of m w) in
-    let here : sent_of (changed m (Send v)) w ≡ sent_of m w + 1 = ap (λ k. get_or (set m.sent v new) k 0) (sym is) ∙ get_or-set_same m.sent v new 0 (omega (arith, kept.shape.sent)) ∙ ap (λ k. sent_of m k + 1) is in
-    inl (cond-true (is_allowed m (Send v) && (v == w)) (item ∷ []) [] (and_from _ _ allowed (eq-eqb v w is)), ap (λ n. sent_of n w) (sym (after_allowed m (Send v) allowed)) ∙ here)
+    let here : sent_of (changed m (Send v)) w ≡ sent_of m w + 1 = ap (λ k. get_or (set m.sent v new) k 0) (sym is)
+    ∙ get_or-set_same m.sent v new 0 (omega (arith, kept.shape.sent)) ∙ ap (λ k. sent_of m k + 1) is in
+    inl (
+      cond-true (is_allowed m (Send v) && (v == w)) (item ∷ []) [] (and_from _ _ allowed (eq-eqb v w is)),
+      ap (λ n. sent_of n w) (sym (after_allowed m (Send v) allowed)) ∙ here,
+    )
 
-sends_none : (w v : ℕ) (m : Machine) → (is_allowed m (Send v) && (v == w)) ≡ false → sent_of (after m (Send v)) w ≡ sent_of m w → SendsNext w m (Send v)
+sends_none : (w v : ℕ) (m : Machine) → (is_allowed m (Send v) && (v == w)) ≡ false
+    → sent_of (after m (Send v)) w ≡ sent_of m w → SendsNext w m (Send v)
 unfolding SendsNext
 sends_none w v m not_so same =
     let item : ℕ = item_of m.workers w (sent_of m w) in
@@ -143,9 +156,11 @@ sends_next w m (Send v) kept lt =
     elim (cases_Bool (is_allowed m (Send v))) [
       | inl allowed ↦ elim (cases_eq v w) [
         | inl is ↦ sends_own w v m kept lt allowed is
-        | inr ne ↦ sends_none w v m (false_from_ne_true _ (λ h. ne (eqb-true v w (and_parts _ _ h).1))) (none_sent w m (Send v) (get_or-set_other m.sent v w (sent_of m v + 1) 0 (λ e. ne (sym e))))
+        | inr ne ↦ sends_none w v m (false_from_ne_true _ (λ h. ne (eqb-true v w (and_parts _ _ h).1)))
+            (none_sent w m (Send v) (get_or-set_other m.sent v w (sent_of m v + 1) 0 (λ e. ne (sym e))))
       ]
-      | inr refused ↦ sends_none w v m (false_from_ne_true _ (λ h. both_ways _ refused (and_parts _ _ h).0)) (ap (λ n. sent_of n w) (sym (after_refused m (Send v) refused)))
+      | inr refused ↦ sends_none w v m (false_from_ne_true _ (λ h. both_ways _ refused (and_parts _ _ h).0))
+          (ap (λ n. sent_of n w) (sym (after_refused m (Send v) refused)))
     ]
 sends_next w m Take kept lt = inr (refl, none_sent w m Take refl)
 sends_next w m (Close v) kept lt = inr (refl, none_sent w m (Close v) refl)
@@ -157,7 +172,8 @@ pub record SendsOn (W w from to : ℕ) (items : List ℕ) : Type 0 where
   pub to_is : to ≡ from + more
   pub items_are : items ≡ map (item_of W w) (range_with_len from more)
 
-pub sends_in_order : (w W : ℕ) (events : List Event) (m : Machine) → Kept m → m.workers ≡ W → w < W → SendsOn W w (sent_of m w) (sent_of (after_all m events) w) (items_sent w m events)
+pub sends_in_order : (w W : ℕ) (events : List Event) (m : Machine) → Kept m → m.workers ≡ W → w < W
+    → SendsOn W w (sent_of m w) (sent_of (after_all m events) w) (items_sent w m events)
 unfolding SendsNext
 sends_in_order w W [] m kept is lt = record { more = 0; to_is = omega arith; items_are = refl }
 sends_in_order w W (e ∷ events) m kept is lt =
@@ -179,7 +195,8 @@ sends_in_order w W (e ∷ events) m kept is lt =
       }
     ]
 
-pub sent_from_new : (w : ℕ) (events : List Event) (m : Machine) → Kept m → w < m.workers → sent_of m w ≡ 0 → items_sent w m events ≡ map (item_of m.workers w) (range_with_len 0 (sent_of (after_all m events) w))
+pub sent_from_new : (w : ℕ) (events : List Event) (m : Machine) → Kept m → w < m.workers → sent_of m w ≡ 0
+    → items_sent w m events ≡ map (item_of m.workers w) (range_with_len 0 (sent_of (after_all m events) w))
 sent_from_new w events m kept lt none =
     let all = sends_in_order w m.workers events m kept refl lt in
     let so : all.more ≡ sent_of (after_all m events) w = omega (arith, all.to_is, none) in
@@ -206,7 +223,8 @@ closed_all (e ∷ events) m w h = closed_all events (after m e) w (closed_after 
 pub closed_by : (m : Machine) (w : ℕ) → Kept m → is_allowed m (Close w) ≡ true → is_closed (after m (Close w)) w ≡ true
 closed_by m w kept allowed =
     let may = may_close m w allowed in
-    ap (λ n. is_closed n w) (sym (after_allowed m (Close w) allowed)) ∙ get_or-set_same m.closed w true false (omega (arith, may.worker, kept.shape.closed))
+    ap (λ n. is_closed n w) (sym (after_allowed m (Close w) allowed))
+    ∙ get_or-set_same m.closed w true false (omega (arith, may.worker, kept.shape.closed))
 
 pub closed_refuses : (m : Machine) (w : ℕ) → is_closed m w ≡ true → is_allowed m (Send w) ≡ false
 closed_refuses m w closed = false_from_ne_true _ (λ h. both_ways _ (may_send m w h).unclosed closed)

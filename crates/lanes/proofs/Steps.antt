@@ -1,12 +1,16 @@
 -- The core keeps what it promises in every step.
-use Rattle.std.proofs.Common.{◌≡◌, ℕ, ◌+◌, ◌*◌, ◌%◌, ◌==◌, ◌<◌, ◌≤◌, ◌⊎◌, ◌||◌, Bool, true, false, cond, List, [], ◌∷◌, length, get_or, set, refl, sym, ◌∙◌, ap, subst, arith, inl, inr}
-use Rattle.std.proofs.lemmas.Bool.{cases_eq, cases_Bool, and_parts, and_from, not-true, not_from_false, ltb-true, lt-ltb, eqb-true, cond-true, cond-false, both_ways, true≢false, cases_lt, not-false, false_from_ne_true}
+use Rattle.std.proofs.Common.{◌≡◌, ℕ, ◌+◌, ◌*◌, ◌%◌, ◌==◌, ◌<◌, ◌≤◌, ◌⊎◌, ◌||◌, Bool, true, false, cond, List, []}
+use Rattle.std.proofs.Common.{◌∷◌, length, get_or, set, refl, sym, ◌∙◌, ap, subst, arith, inl, inr}
+use Rattle.std.proofs.lemmas.Bool.{cases_eq, cases_Bool, and_parts, and_from, not-true, not_from_false, ltb-true}
+use Rattle.std.proofs.lemmas.Bool.{lt-ltb, eqb-true, cond-true, cond-false, both_ways, true≢false, cases_lt}
+use Rattle.std.proofs.lemmas.Bool.{not-false, false_from_ne_true}
 use Rattle.std.proofs.lemmas.List.{get_or-set_same, get_or-set_other, length-set, get_or-replicate, length-replicate}
 use Rattle.std.proofs.lemmas.List.Sums.{count_by-le-length}
 use Rattle.lanes.specs.declared.model.event.Event.{Event}
 use Rattle.lanes.specs.declared.model.event.Event.TheVariants.{Send, Take, Close, Stop}
 use Rattle.lanes.specs.Verdicts.{turns}
-use Rattle.lanes.specs.Machine.{Machine, new_machine, sent_of, taken_of, is_closed, held, share_of, next_lane, is_allowed, changed, after, changes_made, does_change, changes_in}
+use Rattle.lanes.specs.Machine.{Machine, new_machine, sent_of, taken_of, is_closed, held, share_of, next_lane}
+use Rattle.lanes.specs.Machine.{is_allowed, changed, after, changes_made, does_change, changes_in}
 use Rattle.lanes.specs.Sound.{HasLanes, IsLaneSound, IsSound}
 use Rattle.lanes.proofs.Places.{turns-none, turns_less}
 use Rattle.lanes.proofs.Sums.{sum-set_more, count-set_true, sum-within_turns, turns-here, turns-elsewhere}
@@ -62,7 +66,8 @@ lane_after_send m v w shape may lt old =
     let short : v < length m.sent = omega (arith, may.worker, shape.sent) in
     elim (cases_eq w v) [
       | inl e ↦
-          let here : sent_of (changed m (Send v)) w ≡ sent_of m w + 1 = ap (λ k. get_or (set m.sent v new) k 0) e ∙ get_or-set_same m.sent v new 0 short ∙ ap (λ k. sent_of m k + 1) (sym e) in
+          let here : sent_of (changed m (Send v)) w ≡ sent_of m w + 1 = ap (λ k. get_or (set m.sent v new) k 0) e
+          ∙ get_or-set_same m.sent v new 0 short ∙ ap (λ k. sent_of m k + 1) (sym e) in
           let mine : MaySend m w = subst (λ (k : ℕ). MaySend m k) (sym e) may in
           record {
             in_turn = old.in_turn;
@@ -90,7 +95,8 @@ lane_after_take m w shape may lt old =
     let short : v < length m.taken = omega (arith, rem, shape.taken) in
     elim (cases_eq w v) [
       | inl e ↦
-          let here : taken_of (changed m Take) w ≡ taken_of m w + 1 = ap (λ k. get_or (set m.taken v new) k 0) e ∙ get_or-set_same m.taken v new 0 short ∙ ap (λ k. taken_of m k + 1) (sym e) in
+          let here : taken_of (changed m Take) w ≡ taken_of m w + 1 = ap (λ k. get_or (set m.taken v new) k 0) e
+          ∙ get_or-set_same m.taken v new 0 short ∙ ap (λ k. taken_of m k + 1) (sym e) in
           let some : taken_of m w < sent_of m w = subst (λ (k : ℕ). taken_of m k < sent_of m k) (sym e) may.some in
           record {
             in_turn = here ∙ ap (λ t. t + 1) old.in_turn ∙ sym (turns-here m.workers w m.turn e);
@@ -174,13 +180,15 @@ pub bounded : (m : Machine) → Kept m → changes_made m ≤ 2 * m.count + m.wo
 bounded m kept =
     let s = kept.shape in
     let sent = sum-within_turns m.workers m.count m.sent s.some s.sent (λ w lt. (kept.lanes w lt).in_share) in
-    let taken = sum-within_turns m.workers m.count m.taken s.some s.taken (λ w lt. let l = kept.lanes w lt in omega (arith, l.in_share, l.sent_before)) in
+    let taken = sum-within_turns m.workers m.count m.taken s.some s.taken
+    (λ w lt. let l = kept.lanes w lt in omega (arith, l.in_share, l.sent_before)) in
     let closed = count_by-le-length (λ (c : Bool). c) m.closed in
     let flag : cond m.stopped 1 0 ≤ 1 = grind arith in
     omega (arith, sent, taken, closed, s.closed, flag)
 
 -- short of its end and not stopped: where the lane whose turn it is holds nothing, its worker still owes an item
-owes : (m : Machine) → Kept m → 1 ≤ m.capacity → m.turn < m.count → m.stopped ≡ false → sent_of m (next_lane m) ≤ taken_of m (next_lane m) → is_allowed m (Send (next_lane m)) ≡ true
+owes : (m : Machine) → Kept m → 1 ≤ m.capacity → m.turn < m.count → m.stopped ≡ false
+    → sent_of m (next_lane m) ≤ taken_of m (next_lane m) → is_allowed m (Send (next_lane m)) ≡ true
 owes m kept room short running none =
     let v : ℕ = next_lane m in
     let rem : m.turn % m.workers < m.workers = omega (arith, kept.shape.some) in
@@ -191,7 +199,8 @@ owes m kept room short running none =
     let unclosed : is_closed m v ≡ false = false_from_ne_true (is_closed m v) (λ c. let whole = lane.closed_whole c running in omega arith) in
     and_from _ _ (lt-ltb _ _ rem) (and_from _ _ (not_from_false _ unclosed) (and_from _ _ (lt-ltb _ _ held_none) (lt-ltb _ _ owed)))
 
-pub goes_on : (m : Machine) → Kept m → 1 ≤ m.capacity → m.turn < m.count → m.stopped ≡ false → (is_allowed m Take ≡ true) ⊎ (is_allowed m (Send (next_lane m)) ≡ true)
+pub goes_on : (m : Machine) → Kept m → 1 ≤ m.capacity → m.turn < m.count → m.stopped ≡ false
+    → (is_allowed m Take ≡ true) ⊎ (is_allowed m (Send (next_lane m)) ≡ true)
 goes_on m kept room short running =
     let v : ℕ = next_lane m in
     elim (cases_lt (taken_of m v) (sent_of m v)) [
@@ -232,7 +241,8 @@ kept_after m e h =
     ]
 
 -- what changes something adds one to what was changed
-more_changed : (m : Machine) (e : Event) → Kept m → does_change m e ≡ true → (is_allowed m e ≡ true) × (changes_made (changed m e) ≡ changes_made m + 1)
+more_changed : (m : Machine) (e : Event) → Kept m → does_change m e ≡ true
+    → (is_allowed m e ≡ true) × (changes_made (changed m e) ≡ changes_made m + 1)
 more_changed m (Send v) kept does =
     let may = may_send m v does in
     (does, omega (arith, sum-set_more m.sent v (omega (arith, may.worker, kept.shape.sent))))
@@ -281,7 +291,8 @@ all_changes (e ∷ events) m kept =
     let weight : Bool → ℕ = λ b. cond b 1 0 in
     elim (cases_Bool (does_change m e)) [
       | inl does ↦ let one : weight (does_change m e) ≡ 1 = ap weight does in omega (arith, rest, same.0, same.1, one, one_more_change m e kept does)
-      | inr not_so ↦ let none : weight (does_change m e) ≡ 0 = ap weight not_so in omega (arith, rest, same.0, same.1, none, ap changes_made (no_change m e not_so))
+      | inr not_so ↦ let none : weight (does_change m e) ≡ 0 = ap weight not_so in
+          omega (arith, rest, same.0, same.1, none, ap changes_made (no_change m e not_so))
     ]
 
 lane_new : (count W capacity w : ℕ) → w < W → IsLaneSound (new_machine count W capacity) w

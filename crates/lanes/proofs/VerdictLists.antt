@@ -1,5 +1,6 @@
 -- A worker's verdicts, one by one.
-use Rattle.std.proofs.Common.{ℕ, ◌+◌, ◌*◌, ◌%◌, ◌^◌, ◌<◌, ◌≤◌, ◌≡◌, ◌==◌, Bool, false, List, [], ◌∷◌, ◌++◌, length, take, map, refl, sym, ◌∙◌, ap, arith}
+use Rattle.std.proofs.Common.{ℕ, ◌+◌, ◌*◌, ◌%◌, ◌^◌, ◌<◌, ◌≤◌, ◌≡◌, ◌==◌, Bool, false, List, [], ◌∷◌, ◌++◌, length}
+use Rattle.std.proofs.Common.{take, map, refl, sym, ◌∙◌, ap, arith}
 use Rattle.std.specs.List.{range_with_len}
 use Rattle.std.specs.Prelude.{Option, filter}
 use Rattle.std.proofs.lemmas.Simd.{map-map}
@@ -20,7 +21,8 @@ unfolding verdicts places
 length-verdicts d f n form W w = simp length-map (length-places W w n)
 
 -- the i-th verdict is that on the candidate f + w + i * W
-pub verdicts-are : (d : ℕ → List Seat) (f n : ℕ) (form : Form) (W w : ℕ) → w < W → verdicts d f n form W w ≡ map (λ i. verdict_of d form (f + (w + i * W))) (range_with_len 0 (turns W w n))
+pub verdicts-are : (d : ℕ → List Seat) (f n : ℕ) (form : Form) (W w : ℕ) → w < W
+    → verdicts d f n form W w ≡ map (λ i. verdict_of d form (f + (w + i * W))) (range_with_len 0 (turns W w n))
 unfolding verdicts places
 verdicts-are d f n form W w lt =
     ap (map (λ i. verdict_of d form (f + i))) (places-are W w n lt) ∙ map-map _ _ (range_with_len 0 (turns W w n))
@@ -37,14 +39,16 @@ one_more d f n form W w i lt below =
     ∙ ap (λ k. take i (verdicts d f n form W w) ++ verdict_of d form k ∷ []) e
 
 -- the verdict that a worker makes of a candidate
-pub verdict_made : (deals : ℕ → List Seat) (form : Form) (k number : ℕ) (accepted : Bool) (deal : List Seat) → number ≡ k → deal ≡ deals k → accepted ≡ holds form deal
+pub verdict_made : (deals : ℕ → List Seat) (form : Form) (k number : ℕ) (accepted : Bool) (deal : List Seat)
+    → number ≡ k → deal ≡ deals k → accepted ≡ holds form deal
     → record { number = number; accepted = accepted; deal = deal } ≡ verdict_of deals form k
 verdict_made deals form k number accepted deal number_is same accepted_is =
     let test : accepted ≡ holds form (deals k) = accepted_is ∙ ap (holds form) same in
     cc (number_is, same, test)
 
 -- the same deals give the same verdicts
-pub same_verdicts : (d e : ℕ → List Seat) (f n : ℕ) (form : Form) (W w : ℕ) → ((k : ℕ) → d k ≡ e k) → verdicts d f n form W w ≡ verdicts e f n form W w
+pub same_verdicts : (d e : ℕ → List Seat) (f n : ℕ) (form : Form) (W w : ℕ) → ((k : ℕ) → d k ≡ e k)
+    → verdicts d f n form W w ≡ verdicts e f n form W w
 unfolding verdicts
 same_verdicts d e f n form W w same = each_same (filter (λ i. i % W == w) (range_with_len 0 n))
   where
@@ -53,7 +57,8 @@ same_verdicts d e f n form W w same = each_same (filter (λ i. i % W == w) (rang
 
     each_same : (xs : List ℕ) → map (λ i. verdict_of d form (f + i)) xs ≡ map (λ i. verdict_of e form (f + i)) xs
     each_same [] = refl
-    each_same (x ∷ xs) = ap (λ v. v ∷ map (λ i. verdict_of d form (f + i)) xs) (one_same (f + x)) ∙ ap (λ vs. verdict_of e form (f + x) ∷ vs) (each_same xs)
+    each_same (x ∷ xs) = ap (λ v. v ∷ map (λ i. verdict_of d form (f + i)) xs) (one_same (f + x))
+        ∙ ap (λ vs. verdict_of e form (f + x) ∷ vs) (each_same xs)
 
 -- a share's candidates are among those of a seed
 pub number_below : (W w n first i : ℕ) → w < W → first + n ≤ 2 ^ 40 → i < turns W w n → first + w + i * W < 2 ^ 40

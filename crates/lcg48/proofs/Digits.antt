@@ -1,5 +1,6 @@
 -- Jumps by the digits of their length.
-use Rattle.std.proofs.Common.{◌≡◌, ◌∙◌, ℕ, ◌+◌, ◌*◌, ◌/◌, ◌%◌, ◌^◌, ◌<◌, ◌≤◌, List, get_or, length, set, refl, ap, arith, mul-le-mul, pow-add, pow_mono, sym, inl, inr}
+use Rattle.std.proofs.Common.{◌≡◌, ◌∙◌, ℕ, ◌+◌, ◌*◌, ◌/◌, ◌%◌, ◌^◌, ◌<◌, ◌≤◌, List, get_or, length, set, refl, ap}
+use Rattle.std.proofs.Common.{arith, mul-le-mul, pow-add, pow_mono, sym, inl, inr}
 use Rattle.std.proofs.lemmas.Bool.{cases_eq}
 use Rattle.std.proofs.lemmas.List.{get_or-set_same, get_or-set_other}
 use Rattle.lcg48.specs.Sequence.{state_after}
@@ -31,7 +32,8 @@ jumps_none from all = record {
   left = omega arith;
 }
 
-pub jumps_more : (from all place state rest next length : ℕ) → JumpsOn from all place state rest → next ≡ state_after state length → length ≡ length_at (16 * place + rest % 16)
+pub jumps_more : (from all place state rest next length : ℕ) → JumpsOn from all place state rest
+    → next ≡ state_after state length → length ≡ length_at (16 * place + rest % 16)
     → JumpsOn from all (place + 1) next (rest / 16)
 jumps_more from all place state rest next length j next_is length_is =
     let digit : ℕ = rest % 16 in
@@ -52,7 +54,8 @@ jumps_all from all state rest few j =
     j.is ∙ ap (state_after from) none
 
 -- a stride more stands in the table
-pub table_more : (strides : List ℕ) (index stride : ℕ) → index < length strides → stride ≡ length_at index → IsTable strides index → IsTable (set strides index stride) (index + 1)
+pub table_more : (strides : List ℕ) (index stride : ℕ) → index < length strides → stride ≡ length_at index
+    → IsTable strides index → IsTable (set strides index stride) (index + 1)
 table_more strides index stride inside is table i d lt =
     elim (cases_eq i index) [
       | inl here ↦ ap (λ k. get_or (set strides index stride) k d) here ∙ get_or-set_same strides index stride d inside ∙ is ∙ sym (ap length_at here)

@@ -33,7 +33,8 @@ columns-append xs ys = sum_by-append counted xs ys
 -- the part before North's spades
 pub columns-number : (number : ℕ) → number < 2 ^ 64 → columns (codes "Board " ++ decimal number) ≡ 6 + length (decimal number)
 columns-number number fits =
-    columns-append (codes "Board ") (decimal number) ∙ ap (λ n. 6 + n) (columns-ascii (decimal number) (All-from_ascii (decimal number) (IsAscii-decimal number fits)))
+    columns-append (codes "Board ") (decimal number) ∙ ap (λ n. 6 + n)
+    (columns-ascii (decimal number) (All-from_ascii (decimal number) (IsAscii-decimal number fits)))
 
 dashed : (letters : List ℕ) → columns letters ≡ length letters → columns (or_dash (codes "-") letters) ≡ length (or_dash (codes "-") letters)
 dashed [] plain = refl
@@ -47,4 +48,5 @@ signed _ = refl
 pub columns-suit_text : (hand : List Bool) (suit : Suit) → columns (suit_text hand suit) ≡ 2 + length (or_dash (codes "-") (suit_letters hand suit))
 columns-suit_text hand suit =
     let letters : List ℕ = suit_letters hand suit in
-    columns-append (sign_and_space suit) (or_dash (codes "-") letters) ∙ omega (arith, signed suit, dashed letters (columns-ascii letters (suit_letters-ascii hand suit)))
+    columns-append (sign_and_space suit) (or_dash (codes "-") letters)
+    ∙ omega (arith, signed suit, dashed letters (columns-ascii letters (suit_letters-ascii hand suit)))

@@ -35,7 +35,8 @@ none_told t told none =
     let no_score = told.with_digits none in
     rw (none, no_score, told.with_score no_score) refl
 
-pub not_some : (t : TricksView) (digits : List ℕ) (is_empty : Bool) → digits ≡ t.digits → is_empty ≡ (length digits == 0) → not is_empty ≡ false → t.digits ≡ []
+pub not_some : (t : TricksView) (digits : List ℕ) (is_empty : Bool) → digits ≡ t.digits
+    → is_empty ≡ (length digits == 0) → not is_empty ≡ false → t.digits ≡ []
 not_some t [] is_empty same is off = sym same
 not_some t (x ∷ xs) is_empty same is off =
     let some : (suc (length xs) == 0) ≡ false = grind (arith, common_steps) in

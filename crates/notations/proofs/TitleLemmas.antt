@@ -1,7 +1,7 @@
 -- How much room titles take.
 use Rattle.std.proofs.Common.{◌≡◌, ◌≤◌, ◌+◌, ◌++◌, ℕ, List, length, codes, arith, subst, sym}
 use Rattle.std.proofs.lemmas.List.{length-append}
-use Rattle.captions.proofs.Rooms.{narrow_bytes, room-append, wide_bytes}
+use Rattle.boards.proofs.Rooms.{narrow_bytes, room-append, wide_bytes}
 use Rattle.notations.specs.internal.Titles.{AddsAtMost, IsWithin}
 
 pub nothing_added : (old : List ℕ) → AddsAtMost 2 2 old old
@@ -14,7 +14,8 @@ comma_added old = record {
   narrow = omega (arith, room-append 4 old (codes ", "), narrow_bytes (codes ", "));
 }
 
-pub text_added : (old before new text : List ℕ) (n m : ℕ) → AddsAtMost 2 2 old before → new ≡ before ++ text → length text ≤ n → IsWithin m text → AddsAtMost (n + 2) (m + 2) old new
+pub text_added : (old before new text : List ℕ) (n m : ℕ) → AddsAtMost 2 2 old before → new ≡ before ++ text
+    → length text ≤ n → IsWithin m text → AddsAtMost (n + 2) (m + 2) old new
 text_added old before new text n m adds is short within =
     subst (AddsAtMost (n + 2) (m + 2) old) (sym is) record {
       most = omega (arith, length-append before text, adds.most, short);

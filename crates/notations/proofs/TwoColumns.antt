@@ -16,4 +16,9 @@ pub two_digits : (n : ℕ) → 10 ≤ n → n < 2 ^ 64 → two_columns n ≡ dec
 two_digits n large fits =
     let front : List ℕ = decimal (n / 10) in
     let last : List ℕ = (48 + n % 10) ∷ [] in
-    no_gap (decimal n) (omega (arith, ap length (decimal_step n large fits), length-append front last, decimal_nonempty (n / 10) (omega (arith, fits))))
+    no_gap (decimal n) (omega (
+      arith,
+      ap length (decimal_step n large fits),
+      length-append front last,
+      decimal_nonempty (n / 10) (omega (arith, fits)),
+    ))

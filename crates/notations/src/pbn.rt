@@ -12,8 +12,7 @@ ghost use Rattle.pbn_text.specs.Games.{board_text, heading_text, label, tag};
 use crate::dotted::{put_deal, seat_letter};
 use crate::names::vulnerable_name;
 use crate::results::{five_of, put_given, put_two_columns};
-use boards::{Board, Date, Show, SuitLetters, TextBuffer, Tricks};
-use captions::{Caption, Captions};
+use boards::{Board, Caption, Captions, Date, Show, SuitLetters, TextBuffer, Tricks};
 use cards::Seat;
 
 /// Writes the board's game into the empty buffer.

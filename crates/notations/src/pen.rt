@@ -2,14 +2,13 @@
 
 ghost use Rattle.std.specs.Prelude.{◌≡◌, [], IfOk, true};
 ghost use Rattle.std.specs.Option.{option_copied};
-ghost use Rattle.captions.specs.Captions.{captions_in};
+ghost use Rattle.boards.specs.Captions.{captions_in};
 ghost use Rattle.notations.specs.Formats.{board_text, footer_of};
 ghost use Rattle.notations.specs.Tricks.{or_nothing};
 ghost use Rattle.notations.specs.internal.Pens.{IsPlain, IsUnder, Writes, format_of, text_of};
 
 use crate::{hands, json, lin, numbers, page, pbn, sheet, slips};
-use boards::{Board, Format, Show, SuitLetters, TextBuffer, Tricks};
-use captions::Captions;
+use boards::{Board, Captions, Format, Show, SuitLetters, TextBuffer, Tricks};
 use pbn_text::Printer;
 use std::alloc::{AllocError, Global};
 

@@ -4,7 +4,7 @@ ghost use Rattle.std.specs.Prelude.{◌≡◌, ◌≢◌, [], IfOk, None, Some};
 ghost use Rattle.notations.specs.Formats.{HasPrinted, beside_hands, board_text, footer_of, header_of, header_with_tricks, layout_in};
 ghost use Rattle.notations.specs.Formats.{layout_of, layout_showing, layout_with};
 ghost use Rattle.boards.specs.TricksLines.{nothing_known};
-ghost use Rattle.captions.specs.Captions.{captions_in};
+ghost use Rattle.boards.specs.Captions.{captions_in};
 ghost use Rattle.notations.specs.internal.Pens.{footer_after, format_of};
 
 use crate::page::Look;
@@ -12,8 +12,7 @@ use crate::pen::Pen;
 use crate::shown::{beside, is_all};
 use crate::table::Table;
 use crate::{hands, page};
-use boards::{Board, Format, Notation, Show, TextBuffer, Tricks};
-use captions::Captions;
+use boards::{Board, Captions, Format, Notation, Show, TextBuffer, Tricks};
 use pbn_text::HEADER;
 use sinks::{Sink, SinkFault, put_all};
 use std::alloc::{AllocError, Global};

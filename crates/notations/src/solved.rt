@@ -1,12 +1,11 @@
 //! The printer of boards of which some may have tricks.
 
 ghost use Rattle.std.specs.Prelude.{◌≡◌, [], IfOk};
-ghost use Rattle.captions.specs.Captions.{captions_in};
+ghost use Rattle.boards.specs.Captions.{captions_in};
 ghost use Rattle.notations.specs.Formats.{layout_solved};
 
 use crate::printer::AnyPrinter;
-use boards::{Board, Format, Notation, Show, SolvedNotation, Tricks};
-use captions::Captions;
+use boards::{Board, Captions, Format, Notation, Show, SolvedNotation, Tricks};
 use std::alloc::{AllocError, Global};
 use std::marker::Model;
 

@@ -55,10 +55,13 @@ few EastWest = omega arith
 few Both = omega arith
 
 -- the same in the row of the dealer and the column of the vulnerability
-pub board_lines_at : (dealer : Seat) (sides : Vul) (row column : ℕ) → row ≡ seat_number dealer → column ≡ vulnerability_number sides → take (get_or LENGTHS column 0) (get_or (get_or DEALER_AND_VULNERABLE row []) column []) ≡ board_lines dealer sides
+pub board_lines_at : (dealer : Seat) (sides : Vul) (row column : ℕ) → row ≡ seat_number dealer
+    → column ≡ vulnerability_number sides → take (get_or LENGTHS column 0)
+    (get_or (get_or DEALER_AND_VULNERABLE row []) column []) ≡ board_lines dealer sides
 board_lines_at dealer sides row column at over = rw (at, over) (stored_is dealer sides)
 
-pub length-board_lines : (dealer : Seat) (sides : Vul) (row column : ℕ) → row ≡ seat_number dealer → column ≡ vulnerability_number sides → length (get_or (get_or DEALER_AND_VULNERABLE row []) column []) ≡ 48
+pub length-board_lines : (dealer : Seat) (sides : Vul) (row column : ℕ) → row ≡ seat_number dealer
+    → column ≡ vulnerability_number sides → length (get_or (get_or DEALER_AND_VULNERABLE row []) column []) ≡ 48
 length-board_lines dealer sides row column at over = rw (at, over) (length-stored dealer sides)
 
 pub board_lines_fit : (sides : Vul) (column : ℕ) → column ≡ vulnerability_number sides → get_or LENGTHS column 0 ≤ 45

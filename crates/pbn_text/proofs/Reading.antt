@@ -1,5 +1,6 @@
 -- What can be read off a game's text: the text of one deal is that of no other.
-use Rattle.std.proofs.Common.{◌≡◌, ℕ, zero, suc, ◌+◌, ◌-◌, ◌*◌, ◌<◌, ◌==◌, ◌&&◌, Bool, true, false, not, cond, List, [], ◌∷◌, ◌++◌, length, get_or, map, refl, sym, ◌∙◌, ap, arith, subst, inl, inr, ◌⊎◌}
+use Rattle.std.proofs.Common.{◌≡◌, ℕ, zero, suc, ◌+◌, ◌-◌, ◌*◌, ◌<◌, ◌==◌, ◌&&◌, Bool, true, false, not, cond, List}
+use Rattle.std.proofs.Common.{[], ◌∷◌, ◌++◌, length, get_or, map, refl, sym, ◌∙◌, ap, arith, subst, inl, inr, ◌⊎◌}
 use Rattle.std.specs.Prelude.{slice_index, codes, filter}
 use Rattle.std.specs.List.{range_with_len, list_all}
 use Rattle.std.proofs.lemmas.Bool.{cases_lt}
@@ -51,10 +52,12 @@ pair_of x y xs ys e f = cc
 -- two texts that are cut at the first c have the same parts
 cut : (c : ℕ) (xs ys us vs : List ℕ) → Lacks c xs → Lacks c ys → xs ++ c ∷ us ≡ ys ++ c ∷ vs → (xs ≡ ys) × (us ≡ vs)
 cut c [] [] us vs p q e = (refl, rest_same c c us vs e)
-cut c [] (y ∷ ys) us vs p q e = absurd (not_itself c y (and_left (differs c y) (list_all (differs c) ys) q) (sym (first_same c y us (ys ++ c ∷ vs) e)))
+cut c [] (y ∷ ys) us vs p q e = absurd (not_itself c y (and_left (differs c y) (list_all (differs c) ys) q)
+    (sym (first_same c y us (ys ++ c ∷ vs) e)))
 cut c (x ∷ xs) [] us vs p q e = absurd (not_itself c x (and_left (differs c x) (list_all (differs c) xs) p) (first_same x c (xs ++ c ∷ us) vs e))
 cut c (x ∷ xs) (y ∷ ys) us vs p q e =
-    let more = cut c xs ys us vs (and_right (differs c x) (list_all (differs c) xs) p) (and_right (differs c y) (list_all (differs c) ys) q) (rest_same x y (xs ++ c ∷ us) (ys ++ c ∷ vs) e) in
+    let more = cut c xs ys us vs (and_right (differs c x) (list_all (differs c) xs) p)
+    (and_right (differs c y) (list_all (differs c) ys) q) (rest_same x y (xs ++ c ∷ us) (ys ++ c ∷ vs) e) in
     (pair_of x y xs ys (first_same x y (xs ++ c ∷ us) (ys ++ c ∷ vs) e) more.0, more.1)
 
 either : (b : Bool) → (b ≡ true) ⊎ (b ≡ false)
@@ -62,17 +65,22 @@ either true = inl refl
 either false = inr refl
 
 -- what passes a test at all letters passes it at those that are chosen
-chosen_pass : (test : ℕ → Bool) (f : ℕ → ℕ) (p : ℕ → Bool) (xs : List ℕ) → list_all (λ x. test (f x)) xs ≡ true → list_all test (map f (filter p xs)) ≡ true
+chosen_pass : (test : ℕ → Bool) (f : ℕ → ℕ) (p : ℕ → Bool) (xs : List ℕ) → list_all (λ x. test (f x)) xs ≡ true
+    → list_all test (map f (filter p xs)) ≡ true
 chosen_pass test f p [] h = refl
 chosen_pass test f p (x ∷ xs) h =
     elim (either (p x)) [
-      | inl e ↦ rw e (both (test (f x)) (list_all test (map f (filter p xs))) (and_left (test (f x)) (list_all (λ y. test (f y)) xs) h) (chosen_pass test f p xs (and_right (test (f x)) (list_all (λ y. test (f y)) xs) h)))
+      | inl e ↦ rw e (both (test (f x)) (list_all test (map f (filter p xs)))
+          (and_left (test (f x)) (list_all (λ y. test (f y)) xs) h)
+          (chosen_pass test f p xs (and_right (test (f x)) (list_all (λ y. test (f y)) xs) h)))
       | inr e ↦ rw e (chosen_pass test f p xs (and_right (test (f x)) (list_all (λ y. test (f y)) xs) h))
     ]
 
-suit_lacks : (c : ℕ) (hand : List Bool) (suit : Suit) → list_all (λ rank. differs c (slice_index letters rank)) (range_with_len 0 13) ≡ true → Lacks c (suit_text hand suit)
+suit_lacks : (c : ℕ) (hand : List Bool) (suit : Suit) → list_all (λ rank. differs c (slice_index letters rank))
+    (range_with_len 0 13) ≡ true → Lacks c (suit_text hand suit)
 unfolding suit_text
-suit_lacks c hand suit h = chosen_pass (differs c) (slice_index letters) (λ rank. holds_card hand (13 * suit_number suit + rank)) (range_with_len 0 13) h
+suit_lacks c hand suit h = chosen_pass (differs c) (slice_index letters)
+    (λ rank. holds_card hand (13 * suit_number suit + rank)) (range_with_len 0 13) h
 
 -- no two of these have the same letter
 apart : (ℕ → ℕ) → List ℕ → Bool
@@ -85,7 +93,8 @@ not_among f q x xs zs h e =
     not_itself (f x) (f x) (and_left (differs (f x) (f x)) (list_all (differs (f x)) zs) lacks) refl
 
 -- the choice of one more, given whether it is chosen
-choice : (f : ℕ → ℕ) (p : ℕ → Bool) (x : ℕ) (xs : List ℕ) (b : Bool) → p x ≡ b → map f (filter p (x ∷ xs)) ≡ cond b (f x ∷ map f (filter p xs)) (map f (filter p xs))
+choice : (f : ℕ → ℕ) (p : ℕ → Bool) (x : ℕ) (xs : List ℕ) (b : Bool) → p x ≡ b
+    → map f (filter p (x ∷ xs)) ≡ cond b (f x ∷ map f (filter p xs)) (map f (filter p xs))
 choice f p x xs true e = rw e refl
 choice f p x xs false e = rw e refl
 
@@ -93,7 +102,8 @@ truths : (b c : Bool) (bs cs : List Bool) → b ≡ c → bs ≡ cs → b ∷ bs
 truths b c bs cs e f = cc
 
 same_head : (f : ℕ → ℕ) (p q : ℕ → Bool) (x : ℕ) (xs : List ℕ) (b c : Bool) → list_all (λ y. differs (f x) (f y)) xs ≡ true
-    → cond b (f x ∷ map f (filter p xs)) (map f (filter p xs)) ≡ cond c (f x ∷ map f (filter q xs)) (map f (filter q xs)) → (b ≡ c) × (map f (filter p xs) ≡ map f (filter q xs))
+    → cond b (f x ∷ map f (filter p xs)) (map f (filter p xs)) ≡ cond c (f x ∷ map f (filter q xs))
+    (map f (filter q xs)) → (b ≡ c) × (map f (filter p xs) ≡ map f (filter q xs))
 same_head f p q x xs true true h e = (refl, rest_same (f x) (f x) (map f (filter p xs)) (map f (filter q xs)) e)
 same_head f p q x xs true false h e = absurd (not_among f q x xs (map f (filter p xs)) h e)
 same_head f p q x xs false true h e = absurd (not_among f p x xs (map f (filter q xs)) h (sym e))
@@ -104,7 +114,8 @@ same_choice : (f : ℕ → ℕ) (p q : ℕ → Bool) (xs : List ℕ) → apart f
 unfolding apart
 same_choice f p q [] h e = refl
 same_choice f p q (x ∷ xs) h e =
-    let here = same_head f p q x xs (p x) (q x) (and_left (list_all (λ y. differs (f x) (f y)) xs) (apart f xs) h) (sym (choice f p x xs (p x) refl) ∙ e ∙ choice f q x xs (q x) refl) in
+    let here = same_head f p q x xs (p x) (q x) (and_left (list_all (λ y. differs (f x) (f y)) xs) (apart f xs) h)
+    (sym (choice f p x xs (p x) refl) ∙ e ∙ choice f q x xs (q x) refl) in
     truths (p x) (q x) (map p xs) (map q xs) here.0 (same_choice f p q xs (and_right (list_all (λ y. differs (f x) (f y)) xs) (apart f xs) h) here.1)
 
 letters_apart : apart (slice_index letters) (range_with_len 0 13) ≡ true
@@ -114,7 +125,8 @@ letters_apart = refl
 abbrev has : List Bool → Suit → ℕ → Bool
 has hand suit rank = holds_card hand (13 * suit_number suit + rank)
 
-ranks_from_suit : (a b : List Bool) (suit : Suit) → suit_text a suit ≡ suit_text b suit → map (has a suit) (range_with_len 0 13) ≡ map (has b suit) (range_with_len 0 13)
+ranks_from_suit : (a b : List Bool) (suit : Suit) → suit_text a suit ≡ suit_text b suit
+    → map (has a suit) (range_with_len 0 13) ≡ map (has b suit) (range_with_len 0 13)
 unfolding suit_text
 ranks_from_suit a b suit e = same_choice (slice_index letters) (has a suit) (has b suit) (range_with_len 0 13) letters_apart e
 
@@ -132,7 +144,8 @@ four_parts : (c : ℕ) (n w x y z w' x' y' z' : List ℕ) → Lacks c w → Lack
     → n ++ w ++ (c ∷ []) ++ x ++ (c ∷ []) ++ y ++ (c ∷ []) ++ z ≡ n ++ w' ++ (c ∷ []) ++ x' ++ (c ∷ []) ++ y' ++ (c ∷ []) ++ z'
     → (w ≡ w') × (x ≡ x') × (y ≡ y') × (z ≡ z')
 four_parts c n w x y z w' x' y' z' a b d a' b' d' e =
-    let e0 = append_cancel_left n (w ++ (c ∷ (x ++ (c ∷ (y ++ (c ∷ z)))))) (w' ++ (c ∷ (x' ++ (c ∷ (y' ++ (c ∷ z')))))) (sym (grouped c n w x y z) ∙ e ∙ grouped c n w' x' y' z') in
+    let e0 = append_cancel_left n (w ++ (c ∷ (x ++ (c ∷ (y ++ (c ∷ z))))))
+    (w' ++ (c ∷ (x' ++ (c ∷ (y' ++ (c ∷ z')))))) (sym (grouped c n w x y z) ∙ e ∙ grouped c n w' x' y' z') in
     let e1 = cut c w w' (x ++ (c ∷ (y ++ (c ∷ z)))) (x' ++ (c ∷ (y' ++ (c ∷ z')))) a a' e0 in
     let e2 = cut c x x' (y ++ (c ∷ z)) (y' ++ (c ∷ z')) b b' e1.1 in
     let e3 = cut c y y' z z' d d' e2.1 in
@@ -155,7 +168,8 @@ no_dot hand suit = suit_lacks 0x2E hand suit refl
 
 suits_from_hand : (a b : List Bool) → hand_text a ≡ hand_text b → (suit : Suit) → suit_text a suit ≡ suit_text b suit
 suits_from_hand a b e suit =
-    let parts = four_parts 0x2E [] (suit_text a Spades) (suit_text a Hearts) (suit_text a Diamonds) (suit_text a Clubs) (suit_text b Spades) (suit_text b Hearts) (suit_text b Diamonds) (suit_text b Clubs)
+    let parts = four_parts 0x2E [] (suit_text a Spades) (suit_text a Hearts) (suit_text a Diamonds)
+    (suit_text a Clubs) (suit_text b Spades) (suit_text b Hearts) (suit_text b Diamonds) (suit_text b Clubs)
     (no_dot a Spades) (no_dot a Hearts) (no_dot a Diamonds) (no_dot b Spades) (no_dot b Hearts) (no_dot b Diamonds) e in
     each_suit (λ s. suit_text a s ≡ suit_text b s) parts.0 parts.1 parts.2 parts.3 suit
 
@@ -165,7 +179,8 @@ lacks-append c xs ys p q = list_all-append (differs c) xs ys ∙ both (list_all 
 no_space_in_suit : (hand : List Bool) (suit : Suit) → Lacks 0x20 (suit_text hand suit)
 no_space_in_suit hand suit = suit_lacks 0x20 hand suit refl
 
-dotted : (w x y z : List ℕ) → Lacks 0x20 w → Lacks 0x20 x → Lacks 0x20 y → Lacks 0x20 z → Lacks 0x20 (w ++ (0x2E ∷ []) ++ x ++ (0x2E ∷ []) ++ y ++ (0x2E ∷ []) ++ z)
+dotted : (w x y z : List ℕ) → Lacks 0x20 w → Lacks 0x20 x → Lacks 0x20 y → Lacks 0x20 z
+    → Lacks 0x20 (w ++ (0x2E ∷ []) ++ x ++ (0x2E ∷ []) ++ y ++ (0x2E ∷ []) ++ z)
 dotted w x y z p q r s =
     let a = lacks-append 0x20 w (0x2E ∷ []) p refl in
     let b = lacks-append 0x20 (w ++ (0x2E ∷ [])) x a q in
@@ -175,16 +190,22 @@ dotted w x y z p q r s =
     lacks-append 0x20 (w ++ (0x2E ∷ []) ++ x ++ (0x2E ∷ []) ++ y ++ (0x2E ∷ [])) z e s
 
 no_space : (hand : List Bool) → Lacks 0x20 (hand_text hand)
-no_space hand = dotted (suit_text hand Spades) (suit_text hand Hearts) (suit_text hand Diamonds) (suit_text hand Clubs) (no_space_in_suit hand Spades) (no_space_in_suit hand Hearts) (no_space_in_suit hand Diamonds) (no_space_in_suit hand Clubs)
+no_space hand = dotted (suit_text hand Spades) (suit_text hand Hearts) (suit_text hand Diamonds)
+    (suit_text hand Clubs) (no_space_in_suit hand Spades) (no_space_in_suit hand Hearts)
+    (no_space_in_suit hand Diamonds) (no_space_in_suit hand Clubs)
 
 hands_from_deal : (d e : List Seat) → deal_text d ≡ deal_text e → (seat : Seat) → hand_text (hand_of d seat) ≡ hand_text (hand_of e seat)
 hands_from_deal d e same seat =
-    let parts = four_parts 0x20 (codes "N:") (hand_text (hand_of d North)) (hand_text (hand_of d East)) (hand_text (hand_of d South)) (hand_text (hand_of d West)) (hand_text (hand_of e North)) (hand_text (hand_of e East)) (hand_text (hand_of e South)) (hand_text (hand_of e West))
-    (no_space (hand_of d North)) (no_space (hand_of d East)) (no_space (hand_of d South)) (no_space (hand_of e North)) (no_space (hand_of e East)) (no_space (hand_of e South)) same in
+    let parts = four_parts 0x20 (codes "N:") (hand_text (hand_of d North)) (hand_text (hand_of d East))
+    (hand_text (hand_of d South)) (hand_text (hand_of d West)) (hand_text (hand_of e North))
+    (hand_text (hand_of e East)) (hand_text (hand_of e South)) (hand_text (hand_of e West))
+    (no_space (hand_of d North)) (no_space (hand_of d East)) (no_space (hand_of d South)) (no_space (hand_of e North))
+    (no_space (hand_of e East)) (no_space (hand_of e South)) same in
     each_seat (λ q. hand_text (hand_of d q) ≡ hand_text (hand_of e q)) parts.0 parts.1 parts.2 parts.3 seat
 
 -- a card by its suit and its rank
-by_suit : (a b : List Bool) (c : ℕ) → c < 52 → ((suit : Suit) (rank : ℕ) → rank < 13 → has a suit rank ≡ has b suit rank) → holds_card a c ≡ holds_card b c
+by_suit : (a b : List Bool) (c : ℕ) → c < 52 → ((suit : Suit) (rank : ℕ) → rank < 13
+    → has a suit rank ≡ has b suit rank) → holds_card a c ≡ holds_card b c
 by_suit a b c h same =
     elim (cases_lt c 13) [
       | inl s ↦ at Spades c 0 s refl (omega arith)
@@ -221,7 +242,8 @@ seat_back West = refl
 seat_same : (x y : Seat) → ((q : Seat) → (seat_number x == seat_number q) ≡ (seat_number y == seat_number q)) → x ≡ y
 seat_same x y h = sym (seat_back x) ∙ ap seat_of (sym (number_same (seat_number x) (seat_number y) (h x))) ∙ seat_back y
 
-held : (deal : List Seat) (seat : Seat) (c : ℕ) → c < length deal → holds_card (hand_of deal seat) c ≡ (seat_number (get_or deal c North) == seat_number seat)
+held : (deal : List Seat) (seat : Seat) (c : ℕ) → c < length deal
+    → holds_card (hand_of deal seat) c ≡ (seat_number (get_or deal c North) == seat_number seat)
 held deal seat c h = get_or-map (λ holder. seat_number holder == seat_number seat) deal c North false h
 
 pub seats_from_deal : (d e : List Seat) → length d ≡ 52 → length e ≡ 52 → deal_text d ≡ deal_text e → d ≡ e
@@ -232,10 +254,13 @@ seats_from_deal d e p q same =
     seat_same (get_or d c North) (get_or e c North)
     (λ seat.
     sym (held d seat c h)
-    ∙ by_suit (hand_of d seat) (hand_of e seat) c below (λ suit rank low. rank_from_suit (hand_of d seat) (hand_of e seat) suit rank low (suits_from_hand (hand_of d seat) (hand_of e seat) (hands_from_deal d e same seat) suit))
+    ∙ by_suit (hand_of d seat) (hand_of e seat) c below (λ suit rank low. rank_from_suit (hand_of d seat)
+    (hand_of e seat) suit rank low (suits_from_hand (hand_of d seat) (hand_of e seat) (hands_from_deal d e same seat)
+    suit))
     ∙ held e seat c (rw q below)))
 
-pub deal_from_game : (board : ℕ) (heading : HeadingView) (deal other : List Seat) → length deal ≡ 52 → length other ≡ 52 → game board heading deal ≡ game board heading other → deal ≡ other
+pub deal_from_game : (board : ℕ) (heading : HeadingView) (deal other : List Seat) → length deal ≡ 52
+    → length other ≡ 52 → game board heading deal ≡ game board heading other → deal ≡ other
 unfolding game game_text
 deal_from_game board heading deal other p q e =
     let front : List ℕ = heading_text heading ++ board_text (board_by_law board 0 deal) in

@@ -35,9 +35,11 @@ module _ (p : Planned) (form : Form) (t : ℕ) (le : t ≤ p.count) where
   ends_some most short ended =
       let long : length (range_with_len 0 p.count) ≡ p.count = length-range_with_len 0 p.count in
       let test : ℕ → Bool = λ m. counted m == most in
-      let at : (k : ℕ) → k < p.count → get_or (range_with_len 0 p.count) k 0 ≡ k = λ k lt. get_or-range_with_len 0 p.count k 0 lt ∙ (let e : 0 + k ≡ k = omega arith in e) in
+      let at : (k : ℕ) → k < p.count → get_or (range_with_len 0 p.count) k 0 ≡ k =
+      λ k lt. get_or-range_with_len 0 p.count k 0 lt ∙ (let e : 0 + k ≡ k = omega arith in e) in
       position_or_len_is test (range_with_len 0 p.count) t 0 (omega (arith, le, long))
-      (λ k lt. ap test (at k (omega (arith, le, lt))) ∙ ne_eqb (counted k) most (λ e. let less : counted k < most = short k lt most refl in omega arith))
+      (λ k lt. ap test (at k (omega (arith, le, lt))) ∙ ne_eqb (counted k) most
+      (λ e. let less : counted k < most = short k lt most refl in omega arith))
       (λ lt. ap test (at t (omega (arith, lt, long))) ∙ eq-eqb (counted t) most (met most ended (omega (arith, lt, long))))
 
   end_is : (limit : Option ℕ) → IsShort limit → IsEnd limit → end_of (record p { limit = limit }) form ≡ t
@@ -52,7 +54,8 @@ module _ (p : Planned) (form : Form) (t : ℕ) (le : t ≤ p.count) where
       let first : ℕ = position_or_len test (range_with_len 0 p.count) in
       elim (cases_lt first t) [
         | inl before ↦
-            let passes : test (get_or (range_with_len 0 p.count) first 0) ≡ true = passes_at_first test (range_with_len 0 p.count) 0 (omega (arith, before, le, long)) in
+            let passes : test (get_or (range_with_len 0 p.count) first 0) ≡ true =
+            passes_at_first test (range_with_len 0 p.count) 0 (omega (arith, before, le, long)) in
             let here : get_or (range_with_len 0 p.count) first 0 ≡ 0 + first = get_or-range_with_len 0 p.count first 0 (omega (arith, before, le)) in
             let same : 0 + first ≡ first = omega arith in
             let is : counted first ≡ most = eqb-true (counted first) most (sym (ap test (here ∙ same)) ∙ passes) in
@@ -75,8 +78,11 @@ module _ (p : Planned) (form : Form) (t : ℕ) (le : t ≤ p.count) where
   pub needed_here : IsShort p.limit → t ≤ end_of p form
   needed_here short = needed p.limit short
 
-  pub accepted_here : IsWithin p.limit (counted t) → IsEnd p.limit → limited p.limit (accepted_among (candidate_of p) p.first form p.count) ≡ accepted_among (candidate_of p) p.first form t
-  accepted_here within (inl e) = ap (λ n. limited p.limit (accepted_among (candidate_of p) p.first form n)) (sym e) ∙ limited-all p.limit (accepted_among (candidate_of p) p.first form t) within
+  pub accepted_here : IsWithin p.limit (counted t) → IsEnd p.limit
+      → limited p.limit (accepted_among (candidate_of p) p.first form p.count) ≡ accepted_among (candidate_of p)
+      p.first form t
+  accepted_here within (inl e) = ap (λ n. limited p.limit (accepted_among (candidate_of p) p.first form n)) (sym e)
+      ∙ limited-all p.limit (accepted_among (candidate_of p) p.first form t) within
   accepted_here within (inr full) =
       let split = accepted_among-parts (candidate_of p) p.first form t p.count le in
       ap (limited p.limit) split.is ∙ limited-full p.limit (accepted_among (candidate_of p) p.first form t) split.rest full

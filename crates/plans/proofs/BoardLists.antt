@@ -1,5 +1,7 @@
 -- Boards in order, and the accepted candidates in order.
-use Rattle.std.proofs.Common.{◌≡◌, ◌≢◌, ◌∙◌, ◌≤◌, ◌+◌, ◌-◌, ◌++◌, ℕ, suc, Bool, true, false, cond, List, [], ◌∷◌, length, map, take, Option, Some, None, refl, sym, ap, arith, append_assoc, length-append}
+use Rattle.std.proofs.Common.{◌≡◌, ◌≢◌, ◌∙◌, ◌≤◌, ◌+◌, ◌-◌, ◌++◌, ℕ, suc, Bool, true, false, cond, List, [], ◌∷◌}
+use Rattle.std.proofs.Common.{length, map, take, Option, Some, None, refl, sym, ap, arith, append_assoc}
+use Rattle.std.proofs.Common.{length-append}
 use Rattle.std.specs.Prelude.{filter}
 use Rattle.std.specs.List.{enumerate_from, flat_map, range_with_len}
 use Rattle.std.specs.Option.{ForSome}
@@ -44,7 +46,8 @@ pub boards_of-none : (plan : Planned) → boards_of plan [] ≡ []
 unfolding boards_of
 boards_of-none plan = refl
 
-pub boards_of-more : (plan : Planned) (xs : List ℕ) (k : ℕ) → boards_of plan (xs ++ k ∷ []) ≡ boards_of plan xs ++ board_of plan (length xs) k (candidate_of plan k) ∷ []
+pub boards_of-more : (plan : Planned) (xs : List ℕ) (k : ℕ)
+    → boards_of plan (xs ++ k ∷ []) ≡ boards_of plan xs ++ board_of plan (length xs) k (candidate_of plan k) ∷ []
 unfolding boards_of
 boards_of-more plan xs k = boards_by-append (λ n k. board_of plan n k (candidate_of plan k)) xs (k ∷ [])
 
@@ -68,12 +71,14 @@ length-boards_of plan xs = length-boards_by (λ n k. board_of plan n k (candidat
 pub text_of_boards-none : (layout : Layout) → text_of_boards layout [] ≡ layout.header
 text_of_boards-none layout = append-nil layout.header
 
-pub text_of_boards-append : (layout : Layout) (xs ys : List Board) → text_of_boards layout (xs ++ ys) ≡ text_of_boards layout xs ++ flat_map layout.board ys
+pub text_of_boards-append : (layout : Layout) (xs ys : List Board)
+    → text_of_boards layout (xs ++ ys) ≡ text_of_boards layout xs ++ flat_map layout.board ys
 text_of_boards-append layout xs ys =
     ap (λ l. layout.header ++ l) (flat_map-append layout.board xs ys)
     ∙ sym (append_assoc layout.header (flat_map layout.board xs) (flat_map layout.board ys))
 
-pub text_of_boards-more : (layout : Layout) (xs : List Board) (b : Board) → text_of_boards layout (xs ++ b ∷ []) ≡ text_of_boards layout xs ++ layout.board b
+pub text_of_boards-more : (layout : Layout) (xs : List Board) (b : Board)
+    → text_of_boards layout (xs ++ b ∷ []) ≡ text_of_boards layout xs ++ layout.board b
 text_of_boards-more layout xs b = text_of_boards-append layout xs (b ∷ []) ∙ ap (λ l. text_of_boards layout xs ++ l) (append-nil (layout.board b))
 
 pub text_of-none : (layout : Layout) (plan : Planned) → text_of layout plan [] ≡ layout.header
@@ -82,7 +87,8 @@ text_of-none layout plan = ap (text_of_boards layout) (boards_of-none plan) ∙ 
 pub text_of-more : (layout : Layout) (plan : Planned) (xs : List ℕ) (k : ℕ)
     → text_of layout plan (xs ++ k ∷ []) ≡ text_of layout plan xs ++ layout.board (board_of plan (length xs) k (candidate_of plan k))
 text_of-more layout plan xs k =
-    ap (text_of_boards layout) (boards_of-more plan xs k) ∙ text_of_boards-more layout (boards_of plan xs) (board_of plan (length xs) k (candidate_of plan k))
+    ap (text_of_boards layout) (boards_of-more plan xs k)
+    ∙ text_of_boards-more layout (boards_of plan xs) (board_of plan (length xs) k (candidate_of plan k))
 
 -- what comes after the boards of the first candidates
 pub record LaterOf (layout : Layout) (plan : Planned) (xs ys : List ℕ) : Type 0 where

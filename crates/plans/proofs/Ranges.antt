@@ -23,6 +23,7 @@ flat_map-range_more f a n =
     ∙ flat_map-append f (range_with_len a n) ((a + n) ∷ [])
     ∙ ap (λ l. flat_map f (range_with_len a n) ++ l) (append-nil (f (a + n)))
 
-pub flat_map-range_add : (f : ℕ → List ℕ) (a m n : ℕ) → flat_map f (range_with_len a (m + n)) ≡ flat_map f (range_with_len a m) ++ flat_map f (range_with_len (a + m) n)
+pub flat_map-range_add : (f : ℕ → List ℕ) (a m n : ℕ) → flat_map f (range_with_len a (m + n)) ≡ flat_map f
+    (range_with_len a m) ++ flat_map f (range_with_len (a + m) n)
 flat_map-range_add f a m n =
     ap (flat_map f) (range_with_len-add a m n) ∙ flat_map-append f (range_with_len a m) (range_with_len (a + m) n)

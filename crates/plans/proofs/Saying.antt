@@ -1,5 +1,7 @@
 -- Texts that are said in parts.
-use Rattle.std.proofs.Common.{◌≡◌, ◌<◌, ◌≤◌, ◌+◌, ◌-◌, ◌^◌, ◌||◌, ◌++◌, ◌∙◌, ℕ, Bool, true, false, List, [], Option, Some, Result, Ok, Err, OnOk, refl, sym, subst, ap, ap₂, append_assoc, codes, decimal, if◌then◌else◌}
+use Rattle.std.proofs.Common.{◌≡◌, ◌<◌, ◌≤◌, ◌+◌, ◌-◌, ◌^◌, ◌||◌, ◌++◌, ◌∙◌, ℕ, Bool, true, false, List, [], Option}
+use Rattle.std.proofs.Common.{Some, Result, Ok, Err, OnOk, refl, sym, subst, ap, ap₂, append_assoc, codes, decimal}
+use Rattle.std.proofs.Common.{if◌then◌else◌}
 use Rattle.std.proofs.lemmas.Bool.{le-ltb, lt-ltb, ne_eqb}
 use Rattle.std.proofs.lemmas.List.{append-nil}
 use Rattle.sinks.specs.Appended.{append_known, AppendsAll, AppendsPart}
@@ -23,24 +25,28 @@ pub three_parts : (b0 b1 b2 b3 : Option (List ℕ)) (x y z u v w : List ℕ) →
     → AppendsAll b0 b1 x → AppendsAll b1 b2 y → AppendsAll b2 b3 z → AppendsAll b0 b3 (u ++ (v ++ (w ++ [])))
 three_parts b0 b1 b2 b3 x y z u v w xu yv zw one more last =
     let two = part b0 b1 b2 u v (u ++ v) refl (as_text b0 b1 x u xu one) (as_text b1 b2 y v yv more) in
-    part b0 b2 b3 (u ++ v) w (u ++ (v ++ (w ++ []))) (append_assoc u v w ∙ ap (λ t. u ++ (v ++ t)) (sym (append-nil w))) two (as_text b2 b3 z w zw last)
+    part b0 b2 b3 (u ++ v) w (u ++ (v ++ (w ++ []))) (append_assoc u v w
+    ∙ ap (λ t. u ++ (v ++ t)) (sym (append-nil w))) two (as_text b2 b3 z w zw last)
 
 pub last_part : {T E : Type 0} (r : Result T E) (old mid new : Option (List ℕ)) (x y z : List ℕ) → x ++ y ≡ z → AppendsAll old mid x
     → OnOk r (AppendsAll mid new y) → OnOk r (AppendsAll old new z)
 last_part (Ok v) old mid new x y z e a h = part old mid new x y z e a h
 last_part (Err f) old mid new x y z e a h = tt
 
-pub ok_as_text : {T E : Type 0} (r : Result T E) (old new : Option (List ℕ)) (x y : List ℕ) → x ≡ y → OnOk r (AppendsAll old new x) → OnOk r (AppendsAll old new y)
+pub ok_as_text : {T E : Type 0} (r : Result T E) (old new : Option (List ℕ)) (x y : List ℕ) → x ≡ y
+    → OnOk r (AppendsAll old new x) → OnOk r (AppendsAll old new y)
 ok_as_text (Ok v) old new x y e h = as_text old new x y e h
 ok_as_text (Err f) old new x y e h = tt
 
 -- what `put_all` appends at Ok
-pub written : {T E : Type 0} (r : Result T E) (old new : Option (List ℕ)) (x : List ℕ) → AppendsOrBreaksOff old new r x → OnOk r (AppendsAll old new x)
+pub written : {T E : Type 0} (r : Result T E) (old new : Option (List ℕ)) (x : List ℕ)
+    → AppendsOrBreaksOff old new r x → OnOk r (AppendsAll old new x)
 written (Ok v) old new x h = h
 written (Err f) old new x h = tt
 
 pub several : (first candidates : ℕ) → (candidates ≡ 0 → ⊥) → (candidates ≡ 1 → ⊥)
-    → decimal candidates ++ codes " candidates, numbers " ++ decimal first ++ codes " to " ++ decimal (first + candidates - 1) ++ codes "," ≡ candidates_text first candidates
+    → decimal candidates ++ codes " candidates, numbers " ++ decimal first ++ codes " to "
+    ++ decimal (first + candidates - 1) ++ codes "," ≡ candidates_text first candidates
 several first candidates some more =
     sym (ap₂ (λ (x y : Bool). if x then codes "no candidates" else (if y then codes "1 candidate, number " ++ decimal first ++ codes ","
     else decimal candidates ++ codes " candidates, numbers " ++ decimal first ++ codes " to " ++ decimal (first + candidates - 1) ++ codes ","))
@@ -84,4 +90,5 @@ pub third_broken : (b0 b1 b2 b3 : Option (List ℕ)) (x y z u v w : List ℕ) �
     → AppendsAll b0 b1 x → AppendsAll b1 b2 y → AppendsPart b2 b3 z → AppendsPart b0 b3 (u ++ (v ++ (w ++ [])))
 third_broken b0 b1 b2 b3 x y z u v w xu yv zw one more broken =
     let two = part b0 b1 b2 u v (u ++ v) refl (as_text b0 b1 x u xu one) (as_text b1 b2 y v yv more) in
-    subst (AppendsPart b0 b3) (append_assoc (u ++ v) w [] ∙ append_assoc u v (w ++ [])) (whole_then_part (u ++ v) w [] two (subst (AppendsPart b2 b3) zw broken))
+    subst (AppendsPart b0 b3) (append_assoc (u ++ v) w [] ∙ append_assoc u v (w ++ []))
+    (whole_then_part (u ++ v) w [] two (subst (AppendsPart b2 b3) zw broken))

@@ -1,5 +1,6 @@
 -- A value of a deal is what the cards count at their seats, and what the value is beside.
-use Rattle.std.proofs.Common.{◌≡◌, ◌≤◌, ◌<◌, ◌+◌, ◌*◌, ◌&&◌, ◌==◌, ℕ, All, Bool, true, false, cond, List, [], ◌∷◌, Option, Some, None, ap, arith, get_or, option_map, unwrap_or, refl}
+use Rattle.std.proofs.Common.{◌≡◌, ◌≤◌, ◌<◌, ◌+◌, ◌*◌, ◌&&◌, ◌==◌, ℕ, All, Bool, true, false, cond, List, [], ◌∷◌}
+use Rattle.std.proofs.Common.{Option, Some, None, ap, arith, get_or, option_map, unwrap_or, refl}
 use Rattle.std.specs.List.{sum_by, range_with_len}
 use Rattle.std.proofs.Math.Nat.{mul-le-mul_left}
 use Rattle.std.proofs.lemmas.List.{get_or-map}
@@ -36,7 +37,13 @@ in_pack =
 
 pub same_in : (f g : ℕ → ℕ) → ((c : ℕ) → c < 52 → f c ≡ g c) → (xs : List ℕ) → All (λ c. c < 52) xs → sum_by f xs ≡ sum_by g xs
 same_in f g e [] inside = refl
-same_in f g e (x ∷ xs) inside = omega (arith, sum_by-cons f x xs, sum_by-cons g x xs, e x (All-head (λ c. c < 52) x xs inside), same_in f g e xs (All-tail (λ c. c < 52) x xs inside))
+same_in f g e (x ∷ xs) inside = omega (
+  arith,
+  sum_by-cons f x xs,
+  sum_by-cons g x xs,
+  e x (All-head (λ c. c < 52) x xs inside),
+  same_in f g e xs (All-tail (λ c. c < 52) x xs inside),
+)
 
 pub nothing : (xs : List ℕ) → sum_by (λ c. 0) xs ≡ 0
 nothing [] = refl
@@ -138,7 +145,8 @@ times_least false n deal ok k = omega (arith, nothing pack, mul-le-mul_left n (c
 
 times_most :
     (light : Bool) (n : ℕ) (deal : List Seat) → IsPartition deal → (k : Count)
-    → n * count_in deal k ≤ cond light (n * count_beside k) (n * greatest_count k) + sum_by (λ c. cond light (n * card_weight k c (holder deal c)) 0) pack
+    → n * count_in deal k ≤ cond light (n * count_beside k) (n * greatest_count k) + sum_by
+    (λ c. cond light (n * card_weight k c (holder deal c)) 0) pack
 times_most true n deal ok k = omega (arith, scaled n (λ c. card_weight k c (holder deal c)) pack, mul-le-mul_left n (cards_most deal ok k))
 times_most false n deal ok k = omega (arith, nothing pack, mul-le-mul_left n (count_at_most deal ok k))
 

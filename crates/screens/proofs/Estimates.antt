@@ -1,5 +1,6 @@
 -- What estimates promise: card by card, and all together.
-use Rattle.std.proofs.Common.{◌≡◌, ◌≤◌, ◌<◌, ◌+◌, ◌∙◌, ℕ, zero, suc, All, Bool, false, cond, List, [], ◌∷◌, Option, Some, None, ap, arith, get_or, map, refl, sym}
+use Rattle.std.proofs.Common.{◌≡◌, ◌≤◌, ◌<◌, ◌+◌, ◌∙◌, ℕ, zero, suc, All, Bool, false, cond, List, [], ◌∷◌, Option}
+use Rattle.std.proofs.Common.{Some, None, ap, arith, get_or, map, refl, sym}
 use Rattle.std.specs.Prelude.{slice_get}
 use Rattle.std.specs.List.{sum_by, range_with_len}
 use Rattle.std.proofs.lemmas.List.Elements.{All-head, All-tail}
@@ -101,11 +102,13 @@ in_south TwoHands south c = holds_card south c
 south_read : (stage : Stage) (fixed : List (Option Seat)) (west south : List Bool) (deal : List Seat) (c : ℕ)
     → IsPossible stage fixed west south deal → c < 52 → in_south stage south c ≡ is_south stage (holder deal c)
 south_read OneHand fixed west south deal c ok h = refl
-south_read TwoHands fixed west south deal c ok h = ap (λ hand. holds_card hand c) (sym (ok.south_is refl)) ∙ read_hand deal South c ok.completion.partition h
+south_read TwoHands fixed west south deal c ok h = ap (λ hand. holds_card hand c) (sym (ok.south_is refl))
+    ∙ read_hand deal South c ok.completion.partition h
 
 west_read : (stage : Stage) (fixed : List (Option Seat)) (west south : List Bool) (deal : List Seat) (c : ℕ)
     → IsPossible stage fixed west south deal → c < 52 → holds_card west c ≡ is_at West (holder deal c)
-west_read stage fixed west south deal c ok h = ap (λ hand. holds_card hand c) (sym ok.completion.hand) ∙ read_hand deal West c ok.completion.partition h
+west_read stage fixed west south deal c ok h = ap (λ hand. holds_card hand c) (sym ok.completion.hand)
+    ∙ read_hand deal West c ok.completion.partition h
 
 found : (fixed : List (Option Seat)) (c : ℕ) (q : Seat) → get_or fixed c None ≡ Some q → slice_get fixed c ≡ Some (Some q)
 found [] c q e = absurd (cc)
@@ -123,7 +126,8 @@ taken_for bound stage fixed a c = open_weight bound stage a c (get_or fixed c No
 
 each_card : (bound : Bound) (stage : Stage) (fixed : List (Option Seat)) (west south : List Bool) (deal : List Seat) (a : Amount) (c : ℕ)
     → IsPossible stage fixed west south deal → c < 52
-    → Corrects bound (taken_for bound stage fixed a c) (weight_at a c West) (weight_at a c South) (weight_at a c (holder deal c)) (holds_card west c) (in_south stage south c)
+    → Corrects bound (taken_for bound stage fixed a c) (weight_at a c West) (weight_at a c South)
+    (weight_at a c (holder deal c)) (holds_card west c) (in_south stage south c)
 each_card bound stage fixed west south deal a c ok h =
     rw (west_read stage fixed west south deal c ok h, south_read stage fixed west south deal c ok h)
     (either_at bound stage a c (get_or fixed c None) (holder deal c) (λ q e. read deal c q (ok.completion.fixed_stay c q (found fixed c q e))))
@@ -183,7 +187,8 @@ bounds Greatest stage fixed a e west south deal k ok total hw tw hs ts =
       hs,
       ts,
       counted_most deal ok.completion.partition a,
-      all_cards (λ c. weight_at a c (holder deal c)) (taken_at Greatest stage fixed a (holds_card west)) (taken_at Greatest stage fixed a (in_south stage south))
+      all_cards (λ c. weight_at a c (holder deal c)) (taken_at Greatest stage fixed a (holds_card west))
+          (taken_at Greatest stage fixed a (in_south stage south))
           (taken_for Greatest stage fixed a) (held_at a West (holds_card west)) (held_at a South (in_south stage south))
           (λ c h. each_card Greatest stage fixed west south deal a c ok h) pack in_pack,
     )
@@ -202,10 +207,12 @@ held_read : (a : Amount) (q : Seat) (held : List ℕ) (hand : List Bool) → Hel
 held_read a q held hand is_held =
     same_in (λ c. cond (holds_card hand c) (get_or held c 0) 0) (held_at a q (holds_card hand)) (λ c h. rw (is_held c h) refl) pack in_pack
 
-taken_read : (bound : Bound) (stage : Stage) (fixed : List (Option Seat)) (a : Amount) (taken : List ℕ) (hand : List Bool) → TakenIn bound stage fixed a taken
+taken_read : (bound : Bound) (stage : Stage) (fixed : List (Option Seat)) (a : Amount) (taken : List ℕ)
+    (hand : List Bool) → TakenIn bound stage fixed a taken
     → weighed taken hand ≡ sum_by (taken_at bound stage fixed a (holds_card hand)) pack
 taken_read bound stage fixed a taken hand is_taken =
-    same_in (λ c. cond (holds_card hand c) (get_or taken c 0) 0) (taken_at bound stage fixed a (holds_card hand)) (λ c h. rw (is_taken c h) refl) pack in_pack
+    same_in (λ c. cond (holds_card hand c) (get_or taken c 0) 0) (taken_at bound stage fixed a (holds_card hand))
+    (λ c h. rw (is_taken c h) refl) pack in_pack
 
 total_read : (bound : Bound) (stage : Stage) (fixed : List (Option Seat)) (a : Amount) (taken : List ℕ) → TakenIn bound stage fixed a taken
     → sum_by (λ c. get_or taken c 0) pack ≡ sum_by (taken_for bound stage fixed a) pack
@@ -230,7 +237,8 @@ pub one_hand : (bound : Bound) (stage : Stage) (fixed : List (Option Seat)) (a :
     → IsEstimate bound stage fixed a e
 one_hand bound stage fixed a e at_one is_taken in_west no_south total = record {
   of_each = λ w s deal ok.
-      bounds bound stage fixed a e w s deal (weighed e.taken s) ok (total ∙ ap (λ n. beside bound a + n) (total_read bound stage fixed a e.taken is_taken))
+      bounds bound stage fixed a e w s deal (weighed e.taken s) ok
+      (total ∙ ap (λ n. beside bound a + n) (total_read bound stage fixed a e.taken is_taken))
       (held_read a West e.west w in_west)
       (taken_read bound stage fixed a e.taken w is_taken)
       (ap (λ list. weighed list s) no_south ∙ plus_nothing (weighed e.taken s) _ (none_known stage s at_one (λ c. weight_at a c South)))

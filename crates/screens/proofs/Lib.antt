@@ -3,3 +3,14 @@ pub mod Estimates
 pub mod Shifts
 pub mod Refuting
 pub mod Completed
+pub mod Ranges
+pub mod Hopeless
+pub mod Truths
+pub mod SameCount
+pub mod CountBounds
+pub mod Refuted
+pub mod Holding
+pub mod WholeSums
+pub mod Splitting
+pub mod Tearing
+pub mod Soundness

@@ -28,7 +28,8 @@ pub gap : (stage : Stage) (fixed : List (Option Seat)) (a b : Amount) (most leas
 gap stage fixed a b most least or_equal bounds test is_most is_least is_gap opens = record {
   refuted = λ w s deal is_out ok.
       ap not
-      (apart most least or_equal bounds w s (value_in deal a) (value_in deal b) is_gap (is_most.of_each w s deal ok) (is_least.of_each w s deal ok) (opens w s is_out));
+      (apart most least or_equal bounds w s (value_in deal a) (value_in deal b) is_gap (is_most.of_each w s deal ok)
+      (is_least.of_each w s deal ok) (opens w s is_out));
 }
 
 -- the same, of what is true of the same deals
@@ -73,7 +74,8 @@ pub both_are_needed : (stage : Stage) (fixed : List (Option Seat)) (p q : List S
     → Refutes stage fixed (λ deal. p deal || q deal) test
 both_are_needed stage fixed p q left right test is_left is_right joined = record {
   refuted = λ w s deal is_out ok.
-      let two : (excludes left w s ≡ true) × (excludes right w s ≡ true) = two_of (excludes left w s) (excludes right w s) (sym (joined w s) ∙ is_out) in
+      let two : (excludes left w s ≡ true) × (excludes right w s ≡ true) =
+      two_of (excludes left w s) (excludes right w s) (sym (joined w s) ∙ is_out) in
       or_both (p deal) (q deal) (is_left.refuted w s deal two.0 ok) (is_right.refuted w s deal two.1 ok);
 }
 

@@ -1,5 +1,6 @@
 -- What the two weights of a shift come to, and what an open gap tells of two values.
-use Rattle.std.proofs.Common.{◌≡◌, ◌<◌, ◌+◌, ◌-◌, ◌∙◌, ℕ, All, min, Bool, true, false, cond, List, [], ◌∷◌, IsTrue, arith, ap, get_or, length, refl, sym}
+use Rattle.std.proofs.Common.{◌≡◌, ◌<◌, ◌+◌, ◌-◌, ◌∙◌, ℕ, All, min, Bool, true, false, cond, List, [], ◌∷◌, IsTrue}
+use Rattle.std.proofs.Common.{arith, ap, get_or, length, refl, sym}
 use Rattle.std.specs.Prelude.{nat_lt}
 use Rattle.std.specs.List.{sum_by}
 use Rattle.std.proofs.lemmas.Bool.Decides.{nat_tests}
@@ -37,7 +38,8 @@ pub all_weigh : (left right weights : List ℕ) → ((c : ℕ) → c < 52 → ge
     → (hand : List Bool) → weighed weights hand ≡ surplus_of left right hand
 all_weigh left right weights are long light hand =
     same_in (λ c. cond (holds_card hand c) (get_or weights c 0) 0) (λ c. cond (holds_card hand c) (get_or left c 0 - get_or right c 0) 0)
-    (λ c h. let same : get_or weights c 0 ≡ get_or left c 0 - get_or right c 0 = omega (arith, are c h, All-get_or (λ w. w < 16) weights c 0 (omega (arith, long)) light) in
+    (λ c h. let same : get_or weights c 0 ≡ get_or left c 0 - get_or right c 0 =
+    omega (arith, are c h, All-get_or (λ w. w < 16) weights c 0 (omega (arith, long)) light) in
     ap (λ w. cond (holds_card hand c) w 0) same) pack in_pack
 
 -- ---- the balance of a shift
@@ -84,7 +86,8 @@ balanced held taken other_held other_taken opening closing shift opens closes ga
         losses hand,
         all_balance (λ c. cond (holds_card hand c) (get_or opening c 0 - get_or closing c 0) 0) (in_hand held hand) (in_hand other_taken hand)
             (λ c. cond (holds_card hand c) (get_or closing c 0 - get_or opening c 0) 0) (in_hand taken hand) (in_hand other_held hand)
-            (λ c h. balanced_card (holds_card hand c) (get_or held c 0) (get_or other_taken c 0) (get_or taken c 0) (get_or other_held c 0) (get_or opening c 0) (get_or closing c 0)
+            (λ c h. balanced_card (holds_card hand c) (get_or held c 0) (get_or other_taken c 0) (get_or taken c 0)
+            (get_or other_held c 0) (get_or opening c 0) (get_or closing c 0)
             (opens c h) (closes c h)) pack in_pack,
       );
 }

@@ -1,2 +1,11 @@
 pub mod Completions
+pub mod Suits
+pub mod Facts
+pub mod Values
+pub mod Refuted
+pub mod Splits
+pub mod Held
+pub mod Wholes
+pub mod Torn
+pub mod Never
 pub mod internal

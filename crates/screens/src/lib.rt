@@ -1,8 +1,9 @@
-//! What can be told of a condition before a candidate is dealt whole: a screen gives up those
-//! candidates of which no deal can come that meets it.
+//! What a condition rejects without a look at a whole deal.
 //!
-//! A screen compares the least and the greatest that values can still be (`estimate`, `gap`). It is
-//! far quicker to ask than the condition, and doesn't find each candidate that could be given up.
+//! A screen rejects those candidates, before they are dealt whole, of which no deal can come that
+//! meets it. It compares the least and the greatest that values can still be (`estimate`, `gap`).
+//! It is far quicker to ask than the condition, and doesn't find each candidate that could be given
+//! up. And `unmet` finds conditions that no deal meets.
 #![tactic(auto)]
 
 mod estimate;
@@ -13,6 +14,7 @@ mod parts;
 mod screen;
 mod shares;
 mod stage;
+pub mod unmet;
 
 pub use parts::room_after;
 pub use screen::Screen;

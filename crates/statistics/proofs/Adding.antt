@@ -1,5 +1,6 @@
 -- How the rows of a table add up.
-use Rattle.std.proofs.Common.{◌≡◌, ◌+◌, ◌-◌, ◌<◌, ◌≤◌, ◌++◌, ◌∷◌, ◌∙◌, ℕ, suc, zero, Bool, true, false, cond, eqb, List, [], length, map, max, min, sum, fold, inl, inr, refl, sym, ap, ap₂, arith}
+use Rattle.std.proofs.Common.{◌≡◌, ◌+◌, ◌-◌, ◌<◌, ◌≤◌, ◌++◌, ◌∷◌, ◌∙◌, ℕ, suc, zero, Bool, true, false, cond, eqb}
+use Rattle.std.proofs.Common.{List, [], length, map, max, min, sum, fold, inl, inr, refl, sym, ap, ap₂, arith}
 use Rattle.std.specs.List.{range_with_len, sum_by}
 use Rattle.std.proofs.lemmas.Bool.{cases_eq, eq-eqb, ne_eqb}
 use Rattle.std.proofs.lemmas.List.{length-map}
@@ -60,7 +61,8 @@ sum_along f g (x ∷ xs) e = sum_by-cons f x xs ∙ ap₂ (λ (m n : ℕ). m + n
 one_more : (n : ℕ) → 1 + n ≡ suc n
 one_more n = omega arith
 
-counts_sum : (first n : ℕ) (answers : List ℕ) → AreIn first (first + n) answers → sum_by (λ (k : ℕ). count_of k answers) (range_with_len first n) ≡ length answers
+counts_sum : (first n : ℕ) (answers : List ℕ) → AreIn first (first + n) answers
+    → sum_by (λ (k : ℕ). count_of k answers) (range_with_len first n) ≡ length answers
 counts_sum first n [] in_them = sum_of_none (range_with_len first n)
 counts_sum first n (a ∷ answers) in_them =
     sum_along (λ (k : ℕ). count_of k (a ∷ answers)) (λ (k : ℕ). cond (eqb a k) 1 0 + count_of k answers) (range_with_len first n)
@@ -107,7 +109,8 @@ value_rows (a ∷ answers) =
     let e : least_of (a ∷ answers) + (greatest_of (a ∷ answers) + 1 - least_of (a ∷ answers)) ≡ greatest_of (a ∷ answers) + 1 = omega (arith, l, g) in
     sum-map (λ (n : ℕ). count_of n (a ∷ answers)) (rows false (a ∷ answers))
     ∙ counts_sum (least_of (a ∷ answers)) (greatest_of (a ∷ answers) + 1 - least_of (a ∷ answers)) (a ∷ answers)
-    (weaker (least_of (a ∷ answers)) (greatest_of (a ∷ answers) + 1) (least_of (a ∷ answers)) (least_of (a ∷ answers) + (greatest_of (a ∷ answers) + 1 - least_of (a ∷ answers))) (a ∷ answers)
+    (weaker (least_of (a ∷ answers)) (greatest_of (a ∷ answers) + 1) (least_of (a ∷ answers))
+    (least_of (a ∷ answers) + (greatest_of (a ∷ answers) + 1 - least_of (a ∷ answers))) (a ∷ answers)
     (omega arith) (omega (arith, e)) (from_least (a ∷ answers)))
 
 no_or_yes : (b : Bool) → cond b 1 0 < 2
@@ -125,5 +128,6 @@ condition_rows answers in_them = sum-map (λ (n : ℕ). count_of n answers) (row
 pub rows_sum : (question : Question) (deals : List (List Seat))
     → sum (map (λ (n : ℕ). count_of n (answers_of question deals)) (rows (is_condition question) (answers_of question deals))) ≡ length deals
 rows_sum (asks_condition tree) deals =
-    condition_rows (answers_of (asks_condition tree) deals) (all_no_or_yes (asks_condition tree) deals refl) ∙ length-map deals (answer (asks_condition tree))
+    condition_rows (answers_of (asks_condition tree) deals) (all_no_or_yes (asks_condition tree) deals refl)
+    ∙ length-map deals (answer (asks_condition tree))
 rows_sum (asks_value value) deals = value_rows (answers_of (asks_value value) deals) ∙ length-map deals (answer (asks_value value))

@@ -33,7 +33,8 @@ groups-append n xs x i e =
     ∙ flat_map-append f (enumerate_from 0 xs) ((i, x) ∷ [])
     ∙ ap (λ l. flat_map f (enumerate_from 0 xs) ++ l) (append-nil (comma_at i n ++ x ∷ []))
 
-pub groups_more : (n : ℕ) (xs : List ℕ) (i : ℕ) → i < length xs → groups n (take (i + 1) xs) ≡ groups n (take i xs) ++ (comma_at i n ++ get_or xs i 0 ∷ [])
+pub groups_more : (n : ℕ) (xs : List ℕ) (i : ℕ) → i < length xs
+    → groups n (take (i + 1) xs) ≡ groups n (take i xs) ++ (comma_at i n ++ get_or xs i 0 ∷ [])
 groups_more n xs i h =
     let e : length (take i xs) ≡ i = omega (arith, length-take {A = ℕ}) in
     ap (groups n) (take_more xs i 0 h) ∙ groups-append n (take i xs) (get_or xs i 0) i e

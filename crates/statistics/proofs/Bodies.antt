@@ -21,7 +21,8 @@ use Rattle.statistics.proofs.OnePage.{one_page_is}
 use Rattle.statistics.proofs.TwoPage.{two_page_is}
 use Rattle.statistics.proofs.TwoTable.{two_csv_is, two_table_is}
 
-pub alone_body : (style : LineStyle) (n : ℕ) (deals : List (List Seat)) (tried : ℕ) → n ≡ length deals → alone_text style n tried ≡ body_text style deals_alone deals tried
+pub alone_body : (style : LineStyle) (n : ℕ) (deals : List (List Seat)) (tried : ℕ) → n ≡ length deals
+    → alone_text style n tried ≡ body_text style deals_alone deals tried
 unfolding alone_text table_text csv_text page_table
 alone_body Table n deals tried e = refl
 alone_body Html n deals tried e = refl
@@ -35,13 +36,15 @@ one_body Html one widths deals tried kept w h = one_page_is one (answers_of one.
 one_body Csv one widths deals tried kept w h = one_csv_is one (answers_of one.asked.question deals) widths kept h
 
 pub two_body : (style : LineStyle) (two : KeptTwo) (deals : List (List Seat)) (tried : ℕ) → IsKeptTwo two
-    → CountsTwo two (pairs_of two.of.asked.question two.by.question deals) → two_text two style ≡ body_text style (by_two two.of.asked two.by) deals tried
+    → CountsTwo two (pairs_of two.of.asked.question two.by.question deals)
+    → two_text two style ≡ body_text style (by_two two.of.asked two.by) deals tried
 unfolding table_text csv_text page_table
 two_body Table two deals tried kept h = two_table_is two (pairs_of two.of.asked.question two.by.question deals) kept h
 two_body Html two deals tried kept h = two_page_is two (pairs_of two.of.asked.question two.by.question deals) kept h
 two_body Csv two deals tried kept h = two_csv_is two (pairs_of two.of.asked.question two.by.question deals) kept h
 
-pub each_body : (style : LineStyle) (asked : List Asked) (deals : List (List Seat)) (tried : ℕ) → each_text style asked deals tried ≡ body_text style (by_each asked) deals tried
+pub each_body : (style : LineStyle) (asked : List Asked) (deals : List (List Seat)) (tried : ℕ)
+    → each_text style asked deals tried ≡ body_text style (by_each asked) deals tried
 unfolding table_text csv_text page_table
 each_body Table asked deals tried = refl
 each_body _ asked deals tried = refl
@@ -51,7 +54,8 @@ unfolding sentence_line
 sentence_is n m tried e = ap (λ (k : ℕ). sentence k tried ++ codes "\n") e
 
 -- with no deal the sentence is all
-pub told_of_none : (subject : Subject) (deals : List (List Seat)) (tried : ℕ) → length deals ≡ 0 → sentence (length deals) tried ++ codes "\n" ≡ count_text styles.Table subject deals tried
+pub told_of_none : (subject : Subject) (deals : List (List Seat)) (tried : ℕ) → length deals ≡ 0
+    → sentence (length deals) tried ++ codes "\n" ≡ count_text styles.Table subject deals tried
 unfolding count_text
 told_of_none subject deals tried e =
     sym (append-nil (sentence (length deals) tried ++ codes "\n"))
@@ -61,7 +65,8 @@ pub told_of_some : (subject : Subject) (deals : List (List Seat)) (tried : ℕ) 
     → sentence (length deals) tried ++ codes "\n" ++ table_text subject deals ≡ count_text styles.Table subject deals tried
 unfolding count_text
 told_of_some subject deals tried some =
-    ap (λ (b : Bool). sentence (length deals) tried ++ codes "\n" ++ (if b then [] else table_text subject deals)) (sym (ne_eqb (length deals) 0 some))
+    ap (λ (b : Bool). sentence (length deals) tried ++ codes "\n" ++ (if b then [] else table_text subject deals))
+    (sym (ne_eqb (length deals) 0 some))
 
 -- and the same of the table on a page
 pub none_on_page : (subject : Subject) (deals : List (List Seat)) → length deals ≡ 0 → page_part subject deals ≡ []

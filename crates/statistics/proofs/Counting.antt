@@ -1,5 +1,7 @@
 -- What is kept is that of one deal more.
-use Rattle.std.proofs.Common.{◌≡◌, ◌&&◌, ◌+◌, ◌*◌, ◌<◌, ◌++◌, ◌∷◌, ◌∙◌, ℕ, suc, inl, inr, Bool, true, false, cond, eqb, List, [], length, map, get_or, set, refl, sym, ap, ap₂, subst, arith, add-zero, min, max, sum, if◌then◌else◌, ◌==◌, length-set, get_or-set_same, get_or-set_other}
+use Rattle.std.proofs.Common.{◌≡◌, ◌&&◌, ◌+◌, ◌*◌, ◌<◌, ◌++◌, ◌∷◌, ◌∙◌, ℕ, suc, inl, inr, Bool, true, false, cond}
+use Rattle.std.proofs.Common.{eqb, List, [], length, map, get_or, set, refl, sym, ap, ap₂, subst, arith, add-zero}
+use Rattle.std.proofs.Common.{min, max, sum, if◌then◌else◌, ◌==◌, length-set, get_or-set_same, get_or-set_other}
 use Rattle.std.proofs.lemmas.List.{append-nil, map-append, length_push}
 use Rattle.std.proofs.lemmas.List.Sums.{fold_push, sum_by_push}
 use Rattle.std.proofs.lemmas.Bool.{cases_eq, ne_eqb, eq-eqb}
@@ -13,7 +15,8 @@ use Rattle.statistics.specs.declared.sums.Sums.{Sums}
 use Rattle.statistics.specs.Answers.{answers_of, count_of, least_of}
 use Rattle.statistics.specs.Counting.{pairs_of}
 use Rattle.statistics.specs.TwoQuestions.{Pairs, cell, in_column, of_columns, of_rows}
-use Rattle.statistics.specs.internal.Kept.{CountsOne, CountsTwo, IsListOf, KeptOne, KeptTwo, cell_at, sums_of, with_answer, with_more, with_one, with_pair}
+use Rattle.statistics.specs.internal.Kept.{CountsOne, CountsTwo, IsListOf, KeptOne, KeptTwo, cell_at, sums_of}
+use Rattle.statistics.specs.internal.Kept.{with_answer, with_more, with_one, with_pair}
 
 eqb_suc : (n : ℕ) → eqb (suc n) 0 ≡ false
 eqb_suc n = ne_eqb (suc n) 0 (omega arith)
@@ -40,7 +43,8 @@ pub list_grows : (f g : ℕ → ℕ) (numbers : List ℕ) (a amount : ℕ) → I
 list_grows f g numbers a amount h lt e n within =
     elim (cases_eq n a) [
       | inl same ↦ rw (e n, eq-eqb a n (sym same)) (ap (λ (k : ℕ). get_or (set numbers a (get_or numbers a 0 + amount)) k 0) same
-          ∙ get_or-set_same numbers a (get_or numbers a 0 + amount) 0 lt ∙ ap (λ (k : ℕ). k + amount) (h a lt) ∙ ap (λ (k : ℕ). f k + amount) (sym same))
+          ∙ get_or-set_same numbers a (get_or numbers a 0 + amount) 0 lt ∙ ap (λ (k : ℕ). k + amount) (h a lt)
+          ∙ ap (λ (k : ℕ). f k + amount) (sym same))
       | inr other ↦ rw (e n, ne_eqb a n (λ w. other (sym w)), add-zero) (get_or-set_other numbers a n (get_or numbers a 0 + amount) 0 other
           ∙ h n (omega (arith, within, length-set numbers a (get_or numbers a 0 + amount))))
     ]
@@ -52,7 +56,8 @@ one_push one answers a h lt = record {
   counts = list_grows (λ n. count_of n answers) (λ n. count_of n (answers ++ a ∷ [])) one.counts a 1 h.counts lt (λ n. count_push n a answers);
 }
 
-pub one_counted : (one new : KeptOne) (deal : List Seat) (deals : List (List Seat)) (a : ℕ) → new ≡ with_answer one a → a ≡ answer one.asked.question deal
+pub one_counted : (one new : KeptOne) (deal : List Seat) (deals : List (List Seat)) (a : ℕ) → new ≡ with_answer one a
+    → a ≡ answer one.asked.question deal
     → a < length one.counts → CountsOne one (answers_of one.asked.question deals) → CountsOne new (answers_of one.asked.question (deals ++ deal ∷ []))
 one_counted one new deal deals a is given lt h =
     subst (λ (x : KeptOne). CountsOne x (map (answer one.asked.question) (deals ++ deal ∷ []))) (sym is)
@@ -80,7 +85,8 @@ one_or_none true row column = refl
 one_or_none false row column = refl
 
 -- the rows of a column, and of one pair more
-pub column_push : (pairs : Pairs) (m row column : ℕ) → in_column m (pairs ++ (row, column) ∷ []) ≡ in_column m pairs ++ cond (eqb column m) (row ∷ []) []
+pub column_push : (pairs : Pairs) (m row column : ℕ) → in_column m (pairs ++ (row, column) ∷ []) ≡ in_column m pairs
+    ++ cond (eqb column m) (row ∷ []) []
 column_push pairs m row column =
     ap of_rows (filter-append (λ (p : ℕ × ℕ). eqb p.1 m) pairs ((row, column) ∷ []))
     ∙ map-append (λ (p : ℕ × ℕ). p.0) (filter (λ (p : ℕ × ℕ). eqb p.1 m) pairs) (cond (eqb column m) ((row, column) ∷ []) [])
@@ -95,7 +101,8 @@ sum_more true xs x = sum_by_push (λ (n : ℕ). n) xs x
 sum_more false xs x = rw (append-nil xs, add-zero (sum xs)) refl
 
 -- the number at an index, where one grew
-grown_at : (numbers : List ℕ) (a n amount : ℕ) → a < length numbers → get_or (with_more numbers a amount) n 0 ≡ get_or numbers n 0 + cond (eqb a n) amount 0
+grown_at : (numbers : List ℕ) (a n amount : ℕ) → a < length numbers
+    → get_or (with_more numbers a amount) n 0 ≡ get_or numbers n 0 + cond (eqb a n) amount 0
 grown_at numbers a n amount lt =
     elim (cases_eq n a) [
       | inl same ↦ rw (eq-eqb a n (sym same)) (ap (λ (k : ℕ). get_or (set numbers a (get_or numbers a 0 + amount)) k 0) same
@@ -113,7 +120,13 @@ cells_push two pairs row column h lt within area n m low left =
     let rows : length (with_answer two.of row).counts ≡ length two.of.counts = length-set two.of.counts row (get_or two.of.counts row 0 + 1) in
     let below : m < columns = omega (arith, same, left) in
     let above : n < length two.of.counts = omega (arith, rows, low) in
-    let inside : row * columns + column < length two.cells = omega (arith, area, mul-add-lt row columns column (length two.of.counts) lt within, mul_comm (length two.of.counts) columns) in
+    let inside : row * columns + column < length two.cells =
+    omega (
+      arith,
+      area,
+      mul-add-lt row columns column (length two.of.counts) lt within,
+      mul_comm (length two.of.counts) columns,
+    ) in
     ap (λ (k : ℕ). get_or (with_more two.cells (row * columns + column) 1) (n * k + m) 0) same
     ∙ grown_at two.cells (row * columns + column) (n * columns + m) 1 inside
     ∙ ap₂ (λ (x y : ℕ). x + y) (h.cells n m above below) (ap (λ (b : Bool). cond b 1 0) (one_cell n m row column columns below within))
@@ -128,9 +141,11 @@ two_push two pairs row column h lt within alike area = record {
   sums = ap (λ (s : Sums). with_one s column) h.sums ∙ sums_push (of_columns pairs) column
       ∙ ap sums_of (sym (map-append (λ (p : ℕ × ℕ). p.1) pairs ((row, column) ∷ [])));
   cells = cells_push two pairs row column h lt within area;
-  column_deals = list_grows (λ m. length (in_column m pairs)) (λ m. length (in_column m (pairs ++ (row, column) ∷ []))) two.column_deals column 1 h.column_deals within
+  column_deals = list_grows (λ m. length (in_column m pairs))
+      (λ m. length (in_column m (pairs ++ (row, column) ∷ []))) two.column_deals column 1 h.column_deals within
       (λ m. ap length (column_push pairs m row column) ∙ length_more (eqb column m) (in_column m pairs) row);
-  column_sums = list_grows (λ m. sum (in_column m pairs)) (λ m. sum (in_column m (pairs ++ (row, column) ∷ []))) two.column_sums column row h.column_sums (omega arith)
+  column_sums = list_grows (λ m. sum (in_column m pairs)) (λ m. sum (in_column m (pairs ++ (row, column) ∷ [])))
+      two.column_sums column row h.column_sums (omega arith)
       (λ m. ap sum (column_push pairs m row column) ∙ sum_more (eqb column m) (in_column m pairs) row);
 }
 
@@ -138,7 +153,8 @@ pub two_counted : (two new : KeptTwo) (deal : List Seat) (deals : List (List Sea
     → row ≡ answer two.of.asked.question deal → column ≡ answer two.by.question deal
     → row < length two.of.counts → column < length two.column_deals
     → length two.column_sums ≡ length two.column_deals → length two.cells ≡ length two.of.counts * length two.column_deals
-    → CountsTwo two (pairs_of two.of.asked.question two.by.question deals) → CountsTwo new (pairs_of two.of.asked.question two.by.question (deals ++ deal ∷ []))
+    → CountsTwo two (pairs_of two.of.asked.question two.by.question deals)
+    → CountsTwo new (pairs_of two.of.asked.question two.by.question (deals ++ deal ∷ []))
 two_counted two new deal deals row column is given too lt within alike area h =
     subst (λ (x : KeptTwo). CountsTwo x (pairs_of two.of.asked.question two.by.question (deals ++ deal ∷ []))) (sym is)
     (subst (λ (ps : Pairs). CountsTwo (with_pair two row column) ps)

@@ -11,7 +11,8 @@ pub record HaveCounted (deal : List Seat) (olds news : List KeptOne) : Type 0 wh
   pub same : length news ≡ length olds
   pub each : (k : ℕ) (d : KeptOne) → k < length olds → IsCounted deal (get_or olds k d) (get_or news k d)
 
-pub same_asked : (deal : List Seat) (olds news : List KeptOne) → HaveCounted deal olds news → map (λ (o : KeptOne). o.asked) news ≡ map (λ (o : KeptOne). o.asked) olds
+pub same_asked : (deal : List Seat) (olds news : List KeptOne) → HaveCounted deal olds news
+    → map (λ (o : KeptOne). o.asked) news ≡ map (λ (o : KeptOne). o.asked) olds
 same_asked deal [] [] h = refl
 same_asked deal [] (n ∷ news) h = absurd (omega (arith, h.same))
 same_asked deal (o ∷ olds) [] h = absurd (omega (arith, h.same))
@@ -19,17 +20,20 @@ same_asked deal (o ∷ olds) (n ∷ news) h =
     ap₂ (λ (a : Asked) (rest : List Asked). a ∷ rest) (h.each 0 o (omega arith)).asked
     (same_asked deal olds news (record { same = omega (arith, h.same); each = λ k d lt. h.each (suc k) d (omega (arith, lt)) }))
 
-pub all_alike : (deal : List Seat) (olds news : List KeptOne) (n : ℕ) → HaveCounted deal olds news → All (λ (o : KeptOne). o.sums.deals ≡ n) olds → All (λ (o : KeptOne). o.sums.deals ≡ n + 1) news
+pub all_alike : (deal : List Seat) (olds news : List KeptOne) (n : ℕ) → HaveCounted deal olds news
+    → All (λ (o : KeptOne). o.sums.deals ≡ n) olds → All (λ (o : KeptOne). o.sums.deals ≡ n + 1) news
 all_alike deal olds news n h alike k d lt =
     let within : k < length olds = omega (arith, h.same, lt) in
     (h.each k d within).number ∙ ap (λ (m : ℕ). m + 1) (alike k d within)
 
 pub all_counted : (deal : List Seat) (olds news : List KeptOne) (deals : List (List Seat)) → HaveCounted deal olds news
-    → All (λ (o : KeptOne). CountsOne o (answers_of o.asked.question deals)) olds → All (λ (o : KeptOne). CountsOne o (answers_of o.asked.question (deals ++ deal ∷ []))) news
+    → All (λ (o : KeptOne). CountsOne o (answers_of o.asked.question deals)) olds
+    → All (λ (o : KeptOne). CountsOne o (answers_of o.asked.question (deals ++ deal ∷ []))) news
 all_counted deal olds news deals h counts k d lt =
     let within : k < length olds = omega (arith, h.same, lt) in
     let one = h.each k d within in
-    subst (λ (a : Asked). CountsOne (get_or news k d) (answers_of a.question (deals ++ deal ∷ []))) (sym one.asked) (one.counted deals (counts k d within))
+    subst (λ (a : Asked). CountsOne (get_or news k d) (answers_of a.question (deals ++ deal ∷ []))) (sym one.asked)
+    (one.counted deals (counts k d within))
 
 pub written : (xs ys : List KeptOne) (n : ℕ) → length xs ≡ n → take n (xs ++ ys) ≡ xs
 written xs ys n e = subst (λ (k : ℕ). take k (xs ++ ys) ≡ xs) e (take-append_seam xs ys)

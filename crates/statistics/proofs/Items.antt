@@ -30,10 +30,12 @@ items_more old mid new f any first number le a b =
     subst (AppendsAll old new) (sym (one_more f any first number le))
     (then_all old mid new (after any (so_far f first number)) (after (any || has_some (so_far f first number)) (f number)) a b)
 
-pub some_yet : (f : ℕ → List ℕ) (any b c : Bool) (first number : ℕ) → first ≤ number → b ≡ (any || has_some (so_far f first number)) → c ≡ (b || has_some (f number))
+pub some_yet : (f : ℕ → List ℕ) (any b c : Bool) (first number : ℕ) → first ≤ number
+    → b ≡ (any || has_some (so_far f first number)) → c ≡ (b || has_some (f number))
     → c ≡ (any || has_some (so_far f first (number + 1)))
 some_yet f any b c first number le e h =
-    h ∙ ap (λ (x : Bool). x || has_some (f number)) e ∙ sym (some_more any (so_far f first number) (f number)) ∙ ap (λ (xs : List ℕ). any || has_some xs) (sym (pieces_more f first number le))
+    h ∙ ap (λ (x : Bool). x || has_some (f number)) e ∙ sym (some_more any (so_far f first number) (f number))
+    ∙ ap (λ (xs : List ℕ). any || has_some xs) (sym (pieces_more f first number le))
 
 pub items_broken : (old mid new : Option (List ℕ)) (f : ℕ → List ℕ) (any : Bool) (first number end : ℕ) → first ≤ number → number < end
     → AppendsAll old mid (after any (so_far f first number)) → AppendsPart mid new (after (any || has_some (so_far f first number)) (f number))
@@ -42,7 +44,8 @@ items_broken old mid new f any first number end le lt a b =
     let e : (number + 1 - first) + (end - (number + 1)) ≡ end - first = omega arith in
     let rest : List ℕ = flat_map f (range_with_len (first + (number + 1 - first)) (end - (number + 1))) in
     subst (λ (c : ℕ). AppendsPart old new (after any (flat_map f (range_with_len first c)))) e
-    (subst (AppendsPart old new) (sym (ap (after any) (pieces_split f first (number + 1 - first) (end - (number + 1))) ∙ after_more any (so_far f first (number + 1)) rest))
+    (subst (AppendsPart old new) (sym (ap (after any) (pieces_split f first (number + 1 - first) (end - (number + 1)))
+    ∙ after_more any (so_far f first (number + 1)) rest))
     (part_more old new (after any (so_far f first (number + 1))) (after (any || has_some (so_far f first (number + 1))) rest)
     (subst (AppendsPart old new) (sym (one_more f any first number le))
     (then_part old mid new (after any (so_far f first number)) (after (any || has_some (so_far f first number)) (f number)) a b))))

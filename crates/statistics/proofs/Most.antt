@@ -32,4 +32,5 @@ most_up_to f first (suc n) k lt =
 pub most_at : (counts : List ℕ) (rows : Rows) (n : ℕ) → rows.first ≤ n → n < rows.end → get_or counts n 0 ≤ most_of counts rows
 most_at counts rows n le lt =
     let e : rows.first + (n - rows.first) ≡ n = omega arith in
-    subst (λ (j : ℕ). get_or counts j 0 ≤ most_of counts rows) e (most_up_to (λ (j : ℕ). get_or counts j 0) rows.first (rows.end - rows.first) (n - rows.first) (omega arith))
+    subst (λ (j : ℕ). get_or counts j 0 ≤ most_of counts rows) e
+    (most_up_to (λ (j : ℕ). get_or counts j 0) rows.first (rows.end - rows.first) (n - rows.first) (omega arith))

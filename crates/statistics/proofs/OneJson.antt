@@ -20,7 +20,8 @@ values_are : (asked : Asked) (counts answers : List ℕ) → IsKeptOne (one_of a
     → values_kept (one_of asked counts (sums_of answers)) ≡ of_answers asked answers
 values_are asked counts answers kept h =
     let within = within_one asked counts (sums_of answers) kept in
-    flat_map_alike (value_kept (one_of asked counts (sums_of answers))) (λ (n : ℕ). json_value n (count_of n answers)) (rows_shown (is_condition asked.question) (sums_of answers))
+    flat_map_alike (value_kept (one_of asked counts (sums_of answers))) (λ (n : ℕ). json_value n (count_of n answers))
+    (rows_shown (is_condition asked.question) (sums_of answers))
     (λ k lt. ap (json_value k) (h k (omega (arith, within))))
     ∙ ap (flat_map (λ (n : ℕ). json_value n (count_of n answers))) (same_rows (is_condition asked.question) answers)
 
@@ -29,16 +30,19 @@ parts k s v o x e m z = simp append_assoc
 
 object_is : (asked : Asked) (answers : List ℕ) (xs : List ℕ)
     → one_start (one_of asked [] (sums_of answers)) ++ drop 1 xs ++ sums_kept (one_of asked [] (sums_of answers))
-    ≡ codes "{\"of\":" ++ asked.string ++ codes ",\"values\":" ++ (codes "[" ++ drop 1 xs ++ codes "]") ++ json_sums (is_condition asked.question) answers ++ codes "}"
+    ≡ codes "{\"of\":" ++ asked.string ++ codes ",\"values\":" ++ (codes "[" ++ drop 1 xs ++ codes "]")
+    ++ json_sums (is_condition asked.question) answers ++ codes "}"
 unfolding sums_kept
 object_is asked answers xs =
-    parts (codes "{\"of\":") asked.string (codes ",\"values\":") (codes "[") (drop 1 xs) (codes "]") (json_sums (is_condition asked.question) answers) (codes "}")
+    parts (codes "{\"of\":") asked.string (codes ",\"values\":") (codes "[") (drop 1 xs) (codes "]")
+    (json_sums (is_condition asked.question) answers) (codes "}")
 
 json_is : (asked : Asked) (counts answers : List ℕ) → IsKeptOne (one_of asked counts (sums_of answers)) → IsListOf (λ n. count_of n answers) counts
     → one_json (one_of asked counts (sums_of answers)) ≡ json_one (is_condition asked.question) asked.string answers
 unfolding one_json json_one sums_kept
 json_is asked counts answers kept h =
-    ap (λ (xs : List ℕ). one_start (one_of asked counts (sums_of answers)) ++ drop 1 xs ++ sums_kept (one_of asked counts (sums_of answers))) (values_are asked counts answers kept h)
+    ap (λ (xs : List ℕ). one_start (one_of asked counts (sums_of answers)) ++ drop 1 xs
+    ++ sums_kept (one_of asked counts (sums_of answers))) (values_are asked counts answers kept h)
     ∙ object_is asked answers (of_answers asked answers)
 
 pub one_json_is : (one : KeptOne) (answers : List ℕ) → IsKeptOne one → CountsOne one answers

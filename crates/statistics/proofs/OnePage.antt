@@ -13,16 +13,20 @@ use Rattle.statistics.specs.internal.Texts.{AreWidths, one_head, one_row, one_ta
 use Rattle.statistics.proofs.Alike.{flat_map_alike, same_most, same_rows}
 use Rattle.statistics.proofs.OneTable.{one_of, within_one}
 
-page_is : (asked : Asked) (counts answers : List ℕ) (widths : Widths) → IsKeptOne (one_of asked counts (sums_of answers)) → IsListOf (λ n. count_of n answers) counts
-    → AreWidths (one_of asked counts (sums_of answers)) widths → one_text Html widths (one_of asked counts (sums_of answers)) ≡ page_one (is_condition asked.question) answers
+page_is : (asked : Asked) (counts answers : List ℕ) (widths : Widths)
+    → IsKeptOne (one_of asked counts (sums_of answers)) → IsListOf (λ n. count_of n answers) counts
+    → AreWidths (one_of asked counts (sums_of answers)) widths
+    → one_text Html widths (one_of asked counts (sums_of answers)) ≡ page_one (is_condition asked.question) answers
 unfolding one_text one_head one_row one_tail page_one
 page_is asked counts answers widths kept h w =
     let within = within_one asked counts (sums_of answers) kept in
     let most : widths.most ≡ most_in (rows (is_condition asked.question) answers) answers =
     w.most ∙ same_most (is_condition asked.question) counts answers h within in
     let f : ℕ → List ℕ =
-    λ (n : ℕ). page_row (is_condition asked.question) (most_in (rows (is_condition asked.question) answers) answers) (length answers) n (count_of n answers) in
-    sym (append_assoc (page_header ++ flat_map (one_row Html widths (one_of asked counts (sums_of answers))) _) (codes "</tbody>\n</table>\n") (page_mean (is_condition asked.question) answers))
+    λ (n : ℕ). page_row (is_condition asked.question) (most_in (rows (is_condition asked.question) answers) answers)
+    (length answers) n (count_of n answers) in
+    sym (append_assoc (page_header ++ flat_map (one_row Html widths (one_of asked counts (sums_of answers))) _)
+    (codes "</tbody>\n</table>\n") (page_mean (is_condition asked.question) answers))
     ∙ ap (λ (x : List ℕ). page_header ++ x ++ codes "</tbody>\n</table>\n" ++ page_mean (is_condition asked.question) answers)
     (flat_map_alike (one_row Html widths (one_of asked counts (sums_of answers))) f (rows_shown (is_condition asked.question) (sums_of answers))
     (λ k lt. ap₂ (λ (m c : ℕ). page_row (is_condition asked.question) m (length answers) k c) most (h k (omega (arith, within))))

@@ -19,41 +19,52 @@ one_of asked counts sums = record { asked = asked; sums = sums; counts = counts 
 
 row_same : (b : Bool) (f f' s s' m m' all n c c' : ℕ) → f ≡ f' → s ≡ s' → m ≡ m' → c ≡ c' → row b f s m all n c ≡ row b f' s' m' all n c'
 row_same b f f' s s' m m' all n c c' ef es em ec =
-    ap (λ (x : ℕ). row b x s m all n c) ef ∙ ap (λ (x : ℕ). row b f' x m all n c) es ∙ ap (λ (x : ℕ). row b f' s' x all n c) em ∙ ap (λ (x : ℕ). row b f' s' m' all n x) ec
+    ap (λ (x : ℕ). row b x s m all n c) ef ∙ ap (λ (x : ℕ). row b f' x m all n c) es
+    ∙ ap (λ (x : ℕ). row b f' s' x all n c) em ∙ ap (λ (x : ℕ). row b f' s' m' all n x) ec
 
-pub within_one : (asked : Asked) (counts : List ℕ) (sums : Sums) → IsKeptOne (one_of asked counts sums) → (rows_shown (is_condition asked.question) sums).end ≤ length counts
+pub within_one : (asked : Asked) (counts : List ℕ) (sums : Sums) → IsKeptOne (one_of asked counts sums)
+    → (rows_shown (is_condition asked.question) sums).end ≤ length counts
 within_one asked counts sums kept =
     let most : sums.greatest < rows_of asked.question = omega (arith, kept.rows, kept.within) in
     omega (arith, end_within asked.question sums most, kept.rows)
 
-table_is : (asked : Asked) (counts answers : List ℕ) (widths : Widths) → IsKeptOne (one_of asked counts (sums_of answers)) → IsListOf (λ n. count_of n answers) counts
-    → AreWidths (one_of asked counts (sums_of answers)) widths → one_text Table widths (one_of asked counts (sums_of answers)) ≡ one_table (is_condition asked.question) asked.title answers
+table_is : (asked : Asked) (counts answers : List ℕ) (widths : Widths)
+    → IsKeptOne (one_of asked counts (sums_of answers)) → IsListOf (λ n. count_of n answers) counts
+    → AreWidths (one_of asked counts (sums_of answers)) widths
+    → one_text Table widths (one_of asked counts (sums_of answers)) ≡ one_table (is_condition asked.question)
+    asked.title answers
 unfolding one_text one_head one_row one_tail one_table table_rows
 table_is asked counts answers widths kept h w =
     let b : Bool = is_condition asked.question in
     let within = within_one asked counts (sums_of answers) kept in
-    let most : most_of counts (rows_shown (is_condition asked.question) (sums_of answers)) ≡ most_in (rows (is_condition asked.question) answers) answers =
+    let most : most_of counts (rows_shown (is_condition asked.question) (sums_of answers)) ≡ most_in
+    (rows (is_condition asked.question) answers) answers =
     same_most (is_condition asked.question) counts answers h within in
     let second = w.second ∙ ap second_width most in
     ap₂ (λ (x y : List ℕ). x ++ y ++ mean_line (is_condition asked.question) answers)
     (ap₂ (λ (m n : ℕ). codes "\n" ++ asked.title ++ codes "\n" ++ line m n (codes "value") (codes "deals") (codes "%") []) w.first second)
     (flat_map_alike (one_row Table widths (one_of asked counts (sums_of answers)))
     (λ (n : ℕ). row (is_condition asked.question) (first_width (is_condition asked.question) answers)
-    (second_width (most_in (rows (is_condition asked.question) answers) answers)) (most_in (rows (is_condition asked.question) answers) answers) (length answers) n (count_of n answers))
+    (second_width (most_in (rows (is_condition asked.question) answers) answers))
+    (most_in (rows (is_condition asked.question) answers) answers) (length answers) n (count_of n answers))
     (rows_shown (is_condition asked.question) (sums_of answers))
-    (λ k lt. row_same (is_condition asked.question) widths.first _ widths.second _ widths.most _ (length answers) k (get_or counts k 0) (count_of k answers) w.first second (w.most ∙ most) (h k (omega (arith, within))))
+    (λ k lt. row_same (is_condition asked.question) widths.first _ widths.second _ widths.most _ (length answers) k
+    (get_or counts k 0) (count_of k answers) w.first second (w.most ∙ most) (h k (omega (arith, within))))
     ∙ ap (flat_map (λ (n : ℕ). row (is_condition asked.question) (first_width (is_condition asked.question) answers)
-    (second_width (most_in (rows (is_condition asked.question) answers) answers)) (most_in (rows (is_condition asked.question) answers) answers) (length answers) n (count_of n answers)))
+    (second_width (most_in (rows (is_condition asked.question) answers) answers))
+    (most_in (rows (is_condition asked.question) answers) answers) (length answers) n (count_of n answers)))
     (same_rows (is_condition asked.question) answers))
 
-csv_is : (asked : Asked) (counts answers : List ℕ) (widths : Widths) → IsKeptOne (one_of asked counts (sums_of answers)) → IsListOf (λ n. count_of n answers) counts
+csv_is : (asked : Asked) (counts answers : List ℕ) (widths : Widths)
+    → IsKeptOne (one_of asked counts (sums_of answers)) → IsListOf (λ n. count_of n answers) counts
     → one_text Csv widths (one_of asked counts (sums_of answers)) ≡ csv_one (is_condition asked.question) answers
 unfolding one_text one_head one_row one_tail csv_one
 csv_is asked counts answers widths kept h =
     let within = within_one asked counts (sums_of answers) kept in
     append-nil _
     ∙ ap (λ (xs : List ℕ). codes "value,deals\n" ++ xs)
-    (flat_map_alike (one_row Csv widths (one_of asked counts (sums_of answers))) (λ (n : ℕ). csv_row (is_condition asked.question) n (count_of n answers))
+    (flat_map_alike (one_row Csv widths (one_of asked counts (sums_of answers)))
+    (λ (n : ℕ). csv_row (is_condition asked.question) n (count_of n answers))
     (rows_shown (is_condition asked.question) (sums_of answers)) (λ k lt. ap (csv_row (is_condition asked.question) k) (h k (omega (arith, within))))
     ∙ ap (flat_map (λ (n : ℕ). csv_row (is_condition asked.question) n (count_of n answers))) (same_rows (is_condition asked.question) answers))
 

@@ -6,10 +6,12 @@ use Rattle.statistics.specs.Page.{page_bar, shaded}
 use Rattle.statistics.specs.Rounded.{fraction}
 
 -- a cell that has a deal, and a bar of a row that has one
-pub shaded_some : (most count : ℕ) → (count ≡ 0 → ⊥) → shaded most count ≡ codes "<td style=\"--share:" ++ fraction 2 count most ++ codes "\">" ++ commas count ++ codes "</td>"
+pub shaded_some : (most count : ℕ) → (count ≡ 0 → ⊥) → shaded most count ≡ codes "<td style=\"--share:"
+    ++ fraction 2 count most ++ codes "\">" ++ commas count ++ codes "</td>"
 shaded_some most count some = rw (ne_eqb count 0 some) refl
 
-pub page_bar_some : (count most : ℕ) → (count ≡ 0 → ⊥) → page_bar count most ≡ codes "<i style=\"width:" ++ fraction 2 (100 * count) most ++ codes "%\"></i>"
+pub page_bar_some : (count most : ℕ) → (count ≡ 0 → ⊥)
+    → page_bar count most ≡ codes "<i style=\"width:" ++ fraction 2 (100 * count) most ++ codes "%\"></i>"
 page_bar_some count most some = rw (ne_eqb count 0 some) refl
 
 -- pieces that were put one by one
@@ -19,5 +21,6 @@ three_put old a b c = simp append_assoc
 pub five_put : (old a b c d e : List ℕ) → old ++ a ++ b ++ c ++ d ++ e ≡ old ++ (a ++ b ++ c ++ d ++ e)
 five_put old a b c d e = simp append_assoc
 
-pub nine_put : (old a b c d e f g h i : List ℕ) → old ++ a ++ b ++ c ++ d ++ e ++ f ++ g ++ h ++ i ≡ old ++ (a ++ b ++ c ++ d ++ e ++ f ++ g ++ h ++ i)
+pub nine_put : (old a b c d e f g h i : List ℕ) → old ++ a ++ b ++ c ++ d ++ e ++ f ++ g ++ h ++ i ≡ old
+    ++ (a ++ b ++ c ++ d ++ e ++ f ++ g ++ h ++ i)
 nine_put old a b c d e f g h i = simp append_assoc

@@ -1,5 +1,6 @@
 -- A whole square root is the number whose square isn't more, while that of the next one is.
-use Rattle.std.proofs.Common.{inl, inr, subst, ◌≡◌, ◌∙◌, ◌≤◌, ◌<◌, ◌+◌, ◌-◌, ◌*◌, ℕ, zero, suc, Bool, true, false, cond, List, ◌∷◌, refl, sym, ap, arith, zero-add}
+use Rattle.std.proofs.Common.{inl, inr, subst, ◌≡◌, ◌∙◌, ◌≤◌, ◌<◌, ◌+◌, ◌-◌, ◌*◌, ℕ, zero, suc, Bool, true, false}
+use Rattle.std.proofs.Common.{cond, List, ◌∷◌, refl, sym, ap, arith, zero-add}
 use Rattle.std.specs.Prelude.{count_by, nat_le}
 use Rattle.std.specs.List.{range_with_len}
 use Rattle.std.proofs.lemmas.List.Sums.{sum_by-cons}
@@ -28,7 +29,8 @@ count_none p a (suc n) misses =
     ∙ count_none p (a + 1) n (λ (k : ℕ) (h : a + 1 ≤ k). misses k (omega arith))
 
 -- and the first m do, but no other
-count_first : (p : ℕ → Bool) (a m n : ℕ) → ((k : ℕ) → a ≤ k → k < a + m → p k ≡ true) → ((k : ℕ) → a + m ≤ k → p k ≡ false) → count_by p (range_with_len a (m + n)) ≡ m
+count_first : (p : ℕ → Bool) (a m n : ℕ) → ((k : ℕ) → a ≤ k → k < a + m → p k ≡ true)
+    → ((k : ℕ) → a + m ≤ k → p k ≡ false) → count_by p (range_with_len a (m + n)) ≡ m
 count_first p a zero n hits misses =
     let e : zero + n ≡ n = omega arith in
     rw e (count_none p a n (λ (k : ℕ) (h : a ≤ k). misses k (omega arith)))

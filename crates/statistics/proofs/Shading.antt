@@ -20,7 +20,8 @@ most_shown f most shown n le lt up =
     let e : shown.first + (n - shown.first) ≡ n = omega arith in
     subst (λ (j : ℕ). f j ≤ most) e (up (n - shown.first) (omega arith))
 
-cell_up_to : (two : KeptTwo) (n m : ℕ) → (rows_of_one two.of).first ≤ n → n < (rows_of_one two.of).end → (columns_of_two two).first ≤ m → m < (columns_of_two two).end
+cell_up_to : (two : KeptTwo) (n m : ℕ) → (rows_of_one two.of).first ≤ n → n < (rows_of_one two.of).end
+    → (columns_of_two two).first ≤ m → m < (columns_of_two two).end
     → cell_at two n m ≤ most_kept two
 cell_up_to two n m le lt ge below =
     let row = most_shown (λ (j : ℕ). most_in_row two j) (most_kept two) (rows_of_one two.of) n le lt
@@ -43,13 +44,15 @@ pub are_means : (two : KeptTwo) (style : LineStyle) → IsLine two (means_of sty
 are_means two Table = tt
 are_means two _ = tt
 
-on_page : (two : KeptTwo) (line : PageLine) (m : ℕ) → IsPageLine two line → (columns_of_two two).first ≤ m → m < (columns_of_two two).end → IsShaded two line m
+on_page : (two : KeptTwo) (line : PageLine) (m : ℕ) → IsPageLine two line → (columns_of_two two).first ≤ m
+    → m < (columns_of_two two).end → IsShaded two line m
 on_page two Heads m h ge below = tt
 on_page two (Cells n most) m h ge below = h.up_to m ge below
 on_page two Totals m h ge below = tt
 on_page two Means m h ge below = tt
 
-pub can_shade : (two : KeptTwo) (line : Line) (m : ℕ) → IsLine two line → (columns_of_two two).first ≤ m → m < (columns_of_two two).end → CanShade two line m
+pub can_shade : (two : KeptTwo) (line : Line) (m : ℕ) → IsLine two line → (columns_of_two two).first ≤ m
+    → m < (columns_of_two two).end → CanShade two line m
 can_shade two (CsvRow n) m h ge below = tt
 can_shade two Header m h ge below = tt
 can_shade two (Row n) m h ge below = tt

@@ -1,5 +1,6 @@
 -- The csv tables of two lists of deals, and of both.
-use Rattle.std.proofs.Common.{◌≡◌, ◌⊎◌, ◌+◌, ◌-◌, ◌<◌, ◌≤◌, ◌&&◌, ◌++◌, ◌∷◌, ◌∙◌, ℕ, suc, zero, Bool, true, false, cond, eqb, List, [], length, map, inl, inr, refl, sym, ap, ap₂, arith}
+use Rattle.std.proofs.Common.{◌≡◌, ◌⊎◌, ◌+◌, ◌-◌, ◌<◌, ◌≤◌, ◌&&◌, ◌++◌, ◌∷◌, ◌∙◌, ℕ, suc, zero, Bool, true, false}
+use Rattle.std.proofs.Common.{cond, eqb, List, [], length, map, inl, inr, refl, sym, ap, ap₂, arith}
 use Rattle.std.specs.Prelude.{codes, decimal}
 use Rattle.std.specs.List.{enumerate_from, flat_map, range_with_len}
 use Rattle.std.proofs.lemmas.Bool.{ne_eqb}
@@ -28,7 +29,8 @@ along f g [] same = refl
 along f g (n ∷ ns) same = ap₂ (λ (x y : List ℕ). x ++ y) (same n) (along f g ns same)
 
 -- numbers before a range, and after it
-before : (f : ℕ → List ℕ) (j a n : ℕ) → ((k : ℕ) → k < j + a → f k ≡ []) → flat_map f (range_with_len j (a + n)) ≡ flat_map f (range_with_len (j + a) n)
+before : (f : ℕ → List ℕ) (j a n : ℕ) → ((k : ℕ) → k < j + a → f k ≡ [])
+    → flat_map f (range_with_len j (a + n)) ≡ flat_map f (range_with_len (j + a) n)
 before f j zero n none =
     let e : zero + n ≡ n = omega arith in
     let g : j + zero ≡ j = omega arith in
@@ -48,7 +50,8 @@ after f j (suc n) r none =
     let s : suc n + r ≡ suc (n + r) = omega arith in
     rw s (ap (λ (l : List ℕ). f j ++ l) (after f (j + 1) n r (λ k h. none k (omega (arith, h)))))
 
-widened : (f : ℕ → List ℕ) (a n N : ℕ) → a + n ≤ N → ((k : ℕ) → (k < a) ⊎ (a + n ≤ k) → f k ≡ []) → flat_map f (range_with_len a n) ≡ flat_map f (range_with_len 0 N)
+widened : (f : ℕ → List ℕ) (a n N : ℕ) → a + n ≤ N → ((k : ℕ) → (k < a) ⊎ (a + n ≤ k) → f k ≡ [])
+    → flat_map f (range_with_len a n) ≡ flat_map f (range_with_len 0 N)
 widened f a n N fits none =
     let e : a + n + (N - (a + n)) ≡ N = omega (arith, fits) in
     let g : 0 + a ≡ a = omega arith in
@@ -65,7 +68,8 @@ absent n first end (a ∷ answers) in_them out =
     let above : first ≤ a = in_them.0 in
     let below : a < end = in_them.1 in
     sum_by-cons (λ (x : ℕ). cond (eqb x n) 1 0) a answers
-    ∙ ap₂ (λ (b : Bool) (s : ℕ). cond b 1 0 + s) (ne_eqb a n (λ e. absurd (elim out [ inl l ↦ omega (arith, e, l, above) | inr l ↦ omega (arith, e, l, below) ])))
+    ∙ ap₂ (λ (b : Bool) (s : ℕ). cond b 1 0 + s) (ne_eqb a n
+    (λ e. absurd (elim out [ inl l ↦ omega (arith, e, l, above) | inr l ↦ omega (arith, e, l, below) ])))
     (absent n first end answers in_them.2 out)
 
 -- the numbers of a table: `no` and `yes`, or all up to some
@@ -73,13 +77,15 @@ abbrev wide : Bool → ℕ → List ℕ
 wide true N = range_with_len 0 2
 wide false N = range_with_len 0 N
 
-rows_widened : (c : Bool) (f : ℕ → List ℕ) (answers : List ℕ) (N : ℕ) → greatest_of answers + 1 ≤ N → ((k : ℕ) → count_of k answers ≡ 0 → f k ≡ []) → flat_map f (rows c answers) ≡ flat_map f (wide c N)
+rows_widened : (c : Bool) (f : ℕ → List ℕ) (answers : List ℕ) (N : ℕ) → greatest_of answers + 1 ≤ N
+    → ((k : ℕ) → count_of k answers ≡ 0 → f k ≡ []) → flat_map f (rows c answers) ≡ flat_map f (wide c N)
 rows_widened true f answers N fits none = refl
 rows_widened false f answers N fits none =
     let l = least_is_less answers in
     let e : least_of answers + (greatest_of answers + 1 - least_of answers) ≡ greatest_of answers + 1 = omega (arith, l) in
     widened f (least_of answers) (greatest_of answers + 1 - least_of answers) N (omega (arith, e, fits))
-    (λ k out. none k (absent k (least_of answers) (greatest_of answers + 1) answers (from_least answers) (elim out [ inl h ↦ inl h | inr h ↦ inr (omega (arith, e, h)) ])))
+    (λ k out. none k (absent k (least_of answers) (greatest_of answers + 1) answers (from_least answers)
+    (elim out [ inl h ↦ inl h | inr h ↦ inr (omega (arith, e, h)) ])))
 
 -- ---- one question
 
@@ -90,9 +96,11 @@ over_map f g (n ∷ ns) = ap (λ (l : List ℕ). f (g n) ++ l) (over_map f g ns)
 abbrev one_head : List ℕ
 one_head = codes "value,deals\n"
 
-one_wide : (c : Bool) (xs : List ℕ) (N : ℕ) → greatest_of xs + 1 ≤ N → csv_one c xs ≡ one_head ++ flat_map (λ n. csv_row c n (count_of n xs)) (wide c N)
+one_wide : (c : Bool) (xs : List ℕ) (N : ℕ) → greatest_of xs + 1 ≤ N
+    → csv_one c xs ≡ one_head ++ flat_map (λ n. csv_row c n (count_of n xs)) (wide c N)
 unfolding csv_one
-one_wide c xs N fits = ap (λ (l : List ℕ). one_head ++ l) (rows_widened c (λ n. csv_row c n (count_of n xs)) xs N fits (λ k zero. ap (csv_row c k) zero))
+one_wide c xs N fits = ap (λ (l : List ℕ). one_head ++ l)
+    (rows_widened c (λ n. csv_row c n (count_of n xs)) xs N fits (λ k zero. ap (csv_row c k) zero))
 
 one_adds : (c : Bool) (xs ys : List ℕ) → LinesAddUp (csv_one c xs) (csv_one c ys) (csv_one c (xs ++ ys))
 one_adds c xs ys = record {
@@ -101,7 +109,8 @@ one_adds c xs ys = record {
   one_is = one_wide c xs N (omega arith) ∙ ap (λ (l : List ℕ). one_head ++ l) (sym (over_map (λ l. counted l.label l.one) line (wide c N)));
   two_is = one_wide c ys N (omega arith) ∙ ap (λ (l : List ℕ). one_head ++ l) (sym (over_map (λ l. counted l.label l.two) line (wide c N)));
   both_is = one_wide c (xs ++ ys) N (omega arith)
-      ∙ ap (λ (l : List ℕ). one_head ++ l) (along (λ n. csv_row c n (count_of n (xs ++ ys))) (λ n. csv_row c n (count_of n xs + count_of n ys)) (wide c N) (λ n. ap (csv_row c n) (count_of-append n xs ys))
+      ∙ ap (λ (l : List ℕ). one_head ++ l) (along (λ n. csv_row c n (count_of n (xs ++ ys)))
+      (λ n. csv_row c n (count_of n xs + count_of n ys)) (wide c N) (λ n. ap (csv_row c n) (count_of-append n xs ys))
       ∙ sym (over_map (λ l. counted l.label (l.one + l.two)) line (wide c N)));
 }
   where
@@ -152,7 +161,9 @@ two_wide : (kinds : Kinds) (p : Pairs) (N M : ℕ) → greatest_of (of_rows p) +
     → csv_two kinds p ≡ two_head ++ all_cells kinds N M (λ n m. csv_cell kinds n m (cell p n m))
 unfolding csv_two
 two_wide kinds p N M fits_rows fits_columns = ap (λ (l : List ℕ). two_head ++ l) (
-    along (λ n. flat_map (λ m. csv_cell kinds n m (cell p n m)) (columns kinds p)) (λ n. flat_map (λ m. csv_cell kinds n m (cell p n m)) (wide kinds.by_condition M)) (rows kinds.of_condition (of_rows p))
+    along (λ n. flat_map (λ m. csv_cell kinds n m (cell p n m)) (columns kinds p))
+    (λ n. flat_map (λ m. csv_cell kinds n m (cell p n m)) (wide kinds.by_condition M))
+    (rows kinds.of_condition (of_rows p))
     (λ n. rows_widened kinds.by_condition (λ m. csv_cell kinds n m (cell p n m)) (of_columns p) M fits_columns
     (λ m zero. ap (csv_cell kinds n m) (none_of_none (cell p n m) (count_of m (of_columns p)) (in_its_column p n m) zero)))
     ∙ rows_widened kinds.of_condition (λ n. flat_map (λ m. csv_cell kinds n m (cell p n m)) (wide kinds.by_condition M)) (of_rows p) N fits_rows
@@ -170,11 +181,15 @@ over_flat_map f g [] = refl
 over_flat_map f g (n ∷ ns) = flat_map-append f (g n) (flat_map g ns) ∙ ap (λ (l : List ℕ). flat_map f (g n) ++ l) (over_flat_map f g ns)
 
 -- the cells with these counts are lines with the same
-cells_are_lines : (kinds : Kinds) (N M : ℕ) (count : ℕ → ℕ → ℕ) (f : Line → List ℕ) (line : ℕ → ℕ → Line) → ((n m : ℕ) → csv_cell kinds n m (count n m) ≡ f (line n m))
-    → all_cells kinds N M (λ n m. csv_cell kinds n m (count n m)) ≡ flat_map f (flat_map (λ n. map (line n) (wide kinds.by_condition M)) (wide kinds.of_condition N))
+cells_are_lines : (kinds : Kinds) (N M : ℕ) (count : ℕ → ℕ → ℕ) (f : Line → List ℕ) (line : ℕ → ℕ → Line)
+    → ((n m : ℕ) → csv_cell kinds n m (count n m) ≡ f (line n m))
+    → all_cells kinds N M (λ n m. csv_cell kinds n m (count n m)) ≡ flat_map f
+    (flat_map (λ n. map (line n) (wide kinds.by_condition M)) (wide kinds.of_condition N))
 cells_are_lines kinds N M count f line same =
-    along (λ n. flat_map (λ m. csv_cell kinds n m (count n m)) (wide kinds.by_condition M)) (λ n. flat_map f (map (line n) (wide kinds.by_condition M))) (wide kinds.of_condition N)
-    (λ n. along (λ m. csv_cell kinds n m (count n m)) (λ m. f (line n m)) (wide kinds.by_condition M) (same n) ∙ sym (over_map f (line n) (wide kinds.by_condition M)))
+    along (λ n. flat_map (λ m. csv_cell kinds n m (count n m)) (wide kinds.by_condition M))
+    (λ n. flat_map f (map (line n) (wide kinds.by_condition M))) (wide kinds.of_condition N)
+    (λ n. along (λ m. csv_cell kinds n m (count n m)) (λ m. f (line n m)) (wide kinds.by_condition M) (same n)
+    ∙ sym (over_map f (line n) (wide kinds.by_condition M)))
     ∙ sym (over_flat_map f (λ n. map (line n) (wide kinds.by_condition M)) (wide kinds.of_condition N))
 
 two_adds : (kinds : Kinds) (p q : Pairs) → LinesAddUp (csv_two kinds p) (csv_two kinds q) (csv_two kinds (p ++ q))
@@ -182,9 +197,11 @@ two_adds kinds p q = record {
   head = two_head;
   lines = flat_map (λ n. map (line n) (wide kinds.by_condition M)) (wide kinds.of_condition N);
   one_is = two_wide kinds p N M (omega arith) (omega arith)
-      ∙ ap (λ (l : List ℕ). two_head ++ l) (cells_are_lines kinds N M (cell p) (λ l. counted l.label l.one) line (λ n m. cell_counted kinds n m (cell p n m)));
+      ∙ ap (λ (l : List ℕ). two_head ++ l) (cells_are_lines kinds N M (cell p) (λ l. counted l.label l.one) line
+      (λ n m. cell_counted kinds n m (cell p n m)));
   two_is = two_wide kinds q N M (omega arith) (omega arith)
-      ∙ ap (λ (l : List ℕ). two_head ++ l) (cells_are_lines kinds N M (cell q) (λ l. counted l.label l.two) line (λ n m. cell_counted kinds n m (cell q n m)));
+      ∙ ap (λ (l : List ℕ). two_head ++ l) (cells_are_lines kinds N M (cell q) (λ l. counted l.label l.two) line
+      (λ n m. cell_counted kinds n m (cell q n m)));
   both_is = two_wide kinds (p ++ q) N M (omega arith) (omega arith)
       ∙ ap (λ (l : List ℕ). two_head ++ l) (cells_are_lines kinds N M (cell (p ++ q)) (λ l. counted l.label (l.one + l.two)) line
       (λ n m. ap (csv_cell kinds n m) (cell-append p q n m) ∙ cell_counted kinds n m (cell p n m + cell q n m)));
@@ -204,7 +221,8 @@ two_adds kinds p q = record {
 numbered_line : ℕ → Bool → List ℕ → List ℕ → ℕ → Line
 numbered_line k c xs ys n = record { label = decimal k ++ codes "," ++ plain_label c n; one = count_of n xs; two = count_of n ys }
 
-one_numbered : (k : ℕ) (c : Bool) (xs : List ℕ) (N : ℕ) → greatest_of xs + 1 ≤ N → csv_numbered k c xs ≡ flat_map (λ n. csv_numbered_row k c n (count_of n xs)) (wide c N)
+one_numbered : (k : ℕ) (c : Bool) (xs : List ℕ) (N : ℕ) → greatest_of xs + 1 ≤ N
+    → csv_numbered k c xs ≡ flat_map (λ n. csv_numbered_row k c n (count_of n xs)) (wide c N)
 unfolding csv_numbered
 one_numbered k c xs N fits = rows_widened c (λ n. csv_numbered_row k c n (count_of n xs)) xs N fits (λ n zero. ap (csv_numbered_row k c n) zero)
 
@@ -217,17 +235,22 @@ question_lines k c xs ys = map (numbered_line k c xs ys) (wide c (beyond xs ys))
 
 in_first : (k : ℕ) (c : Bool) (xs ys : List ℕ) → csv_numbered k c xs ≡ flat_map (λ l. counted l.label l.one) (question_lines k c xs ys)
 unfolding question_lines numbered_line
-in_first k c xs ys = one_numbered k c xs (beyond xs ys) (omega arith) ∙ sym (over_map (λ l. counted l.label l.one) (numbered_line k c xs ys) (wide c (beyond xs ys)))
+in_first k c xs ys = one_numbered k c xs (beyond xs ys) (omega arith)
+    ∙ sym (over_map (λ l. counted l.label l.one) (numbered_line k c xs ys) (wide c (beyond xs ys)))
 
 in_second : (k : ℕ) (c : Bool) (xs ys : List ℕ) → csv_numbered k c ys ≡ flat_map (λ l. counted l.label l.two) (question_lines k c xs ys)
 unfolding question_lines numbered_line
-in_second k c xs ys = one_numbered k c ys (beyond xs ys) (omega arith) ∙ sym (over_map (λ l. counted l.label l.two) (numbered_line k c xs ys) (wide c (beyond xs ys)))
+in_second k c xs ys = one_numbered k c ys (beyond xs ys) (omega arith)
+    ∙ sym (over_map (λ l. counted l.label l.two) (numbered_line k c xs ys) (wide c (beyond xs ys)))
 
-in_both : (k : ℕ) (c : Bool) (xs ys : List ℕ) → csv_numbered k c (xs ++ ys) ≡ flat_map (λ l. counted l.label (l.one + l.two)) (question_lines k c xs ys)
+in_both : (k : ℕ) (c : Bool) (xs ys : List ℕ) → csv_numbered k c (xs ++ ys) ≡ flat_map
+    (λ l. counted l.label (l.one + l.two)) (question_lines k c xs ys)
 unfolding question_lines numbered_line
 in_both k c xs ys =
     one_numbered k c (xs ++ ys) (beyond xs ys) (omega arith)
-    ∙ along (λ n. csv_numbered_row k c n (count_of n (xs ++ ys))) (λ n. csv_numbered_row k c n (count_of n xs + count_of n ys)) (wide c (beyond xs ys)) (λ n. ap (csv_numbered_row k c n) (count_of-append n xs ys))
+    ∙ along (λ n. csv_numbered_row k c n (count_of n (xs ++ ys)))
+    (λ n. csv_numbered_row k c n (count_of n xs + count_of n ys)) (wide c (beyond xs ys))
+    (λ n. ap (csv_numbered_row k c n) (count_of-append n xs ys))
     ∙ sym (over_map (λ l. counted l.label (l.one + l.two)) (numbered_line k c xs ys) (wide c (beyond xs ys)))
 
 -- the lines of all questions, numbered from k on
@@ -237,13 +260,15 @@ lines_of k (a ∷ asked) deals more =
     question_lines k (is_condition a.question) (answers_of a.question deals) (answers_of a.question more) ++ lines_of (k + 1) asked deals more
 
 parts_are : (k : ℕ) (asked : List Asked) (deals more told : List (List Seat)) (f : Line → List ℕ)
-    → ((j : ℕ) (a : Asked) → csv_numbered j (is_condition a.question) (answers_of a.question told) ≡ flat_map f (question_lines j (is_condition a.question) (answers_of a.question deals) (answers_of a.question more)))
+    → ((j : ℕ) (a : Asked) → csv_numbered j (is_condition a.question) (answers_of a.question told) ≡ flat_map f
+    (question_lines j (is_condition a.question) (answers_of a.question deals) (answers_of a.question more)))
     → flat_map (part_of Csv told) (enumerate_from k asked) ≡ flat_map f (lines_of k asked deals more)
 unfolding lines_of
 parts_are k [] deals more told f same = refl
 parts_are k (a ∷ asked) deals more told f same =
     ap₂ (λ (x y : List ℕ). x ++ y) (same k a) (parts_are (k + 1) asked deals more told f same)
-    ∙ sym (flat_map-append f (question_lines k (is_condition a.question) (answers_of a.question deals) (answers_of a.question more)) (lines_of (k + 1) asked deals more))
+    ∙ sym (flat_map-append f (question_lines k (is_condition a.question) (answers_of a.question deals)
+    (answers_of a.question more)) (lines_of (k + 1) asked deals more))
 
 each_adds : (asked : List Asked) (deals more : List (List Seat)) (m n : ℕ)
     → PartsAddUp (csv_counts (length deals) m ++ parts_text Csv asked deals) (csv_counts (length more) n ++ parts_text Csv asked more)
@@ -256,14 +281,16 @@ each_adds asked deals more m n = record {
       (λ j a. in_first j (is_condition a.question) (answers_of a.question deals) (answers_of a.question more)));
   two_is = ap (λ (l : List ℕ). csv_counts (length more) n ++ l) (parts_are 1 asked deals more more (λ l. counted l.label l.two)
       (λ j a. in_second j (is_condition a.question) (answers_of a.question deals) (answers_of a.question more)));
-  both_is = ap₂ (λ (k : ℕ) (l : List ℕ). csv_counts k (m + n) ++ l) (length-append deals more) (parts_are 1 asked deals more (deals ++ more) (λ l. counted l.label (l.one + l.two))
+  both_is = ap₂ (λ (k : ℕ) (l : List ℕ). csv_counts k (m + n) ++ l) (length-append deals more)
+      (parts_are 1 asked deals more (deals ++ more) (λ l. counted l.label (l.one + l.two))
       (λ j a. ap (csv_numbered j (is_condition a.question)) (map-append (answer a.question) deals more)
       ∙ in_both j (is_condition a.question) (answers_of a.question deals) (answers_of a.question more)));
 }
 
 -- ---- all subjects
 
-pub adds_up : (subject : Subject) (deals more : List (List Seat)) (m n : ℕ) → AddUp subject (csv_text subject deals m) (csv_text subject more n) (csv_text subject (deals ++ more) (m + n))
+pub adds_up : (subject : Subject) (deals more : List (List Seat)) (m n : ℕ)
+    → AddUp subject (csv_text subject deals m) (csv_text subject more n) (csv_text subject (deals ++ more) (m + n))
 unfolding csv_text
 adds_up deals_alone deals more m n = record {
   deals = (length deals, length more);
@@ -273,7 +300,8 @@ adds_up deals_alone deals more m n = record {
   both_is = ap (λ (l : ℕ). csv_total l (m + n)) (length-append deals more);
 }
 adds_up (by_one asked) deals more m n =
-    rw (map-append (answer asked.question) deals more) (one_adds (is_condition asked.question) (answers_of asked.question deals) (answers_of asked.question more))
+    rw (map-append (answer asked.question) deals more) (one_adds (is_condition asked.question)
+    (answers_of asked.question deals) (answers_of asked.question more))
 adds_up (by_two of by) deals more m n =
     rw (map-append {B = ℕ × ℕ} (λ (deal : List Seat). (answer of.question deal, answer by.question deal)) deals more)
     (two_adds (kinds_of of by) (pairs_of of.question by.question deals) (pairs_of of.question by.question more))

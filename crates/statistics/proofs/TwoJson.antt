@@ -36,14 +36,18 @@ parts a s b t v o x e z = simp append_assoc
 
 object_is : (two : KeptTwo) (xs : List ℕ)
     → two_start two ++ drop 1 xs ++ codes "]}"
-    ≡ codes "{\"of\":" ++ two.of.asked.string ++ codes ",\"by\":" ++ two.by.string ++ codes ",\"values\":" ++ (codes "[" ++ drop 1 xs ++ codes "]") ++ codes "}"
+    ≡ codes "{\"of\":" ++ two.of.asked.string ++ codes ",\"by\":" ++ two.by.string ++ codes ",\"values\":"
+    ++ (codes "[" ++ drop 1 xs ++ codes "]") ++ codes "}"
 object_is two xs =
-    parts (codes "{\"of\":") two.of.asked.string (codes ",\"by\":") two.by.string (codes ",\"values\":") (codes "[") (drop 1 xs) (codes "]") (codes "}")
+    parts (codes "{\"of\":") two.of.asked.string (codes ",\"by\":") two.by.string (codes ",\"values\":") (codes "[")
+    (drop 1 xs) (codes "]") (codes "}")
 
-json_is : (two : KeptTwo) (pairs : Pairs) → Tells two pairs → two_json (told two pairs) ≡ json_two (kinds_kept two) two.of.asked.string two.by.string pairs
+json_is : (two : KeptTwo) (pairs : Pairs) → Tells two pairs
+    → two_json (told two pairs) ≡ json_two (kinds_kept two) two.of.asked.string two.by.string pairs
 unfolding two_json json_two
 json_is two pairs h =
     ap (λ (xs : List ℕ). two_start two ++ drop 1 xs ++ codes "]}") (pairs_are two pairs h) ∙ object_is two (of_pairs two pairs)
 
-pub two_json_is : (two : KeptTwo) (pairs : Pairs) → IsKeptTwo two → CountsTwo two pairs → two_json two ≡ json_two (kinds_kept two) two.of.asked.string two.by.string pairs
+pub two_json_is : (two : KeptTwo) (pairs : Pairs) → IsKeptTwo two → CountsTwo two pairs
+    → two_json two ≡ json_two (kinds_kept two) two.of.asked.string two.by.string pairs
 two_json_is two pairs kept h = ap two_json (sym (told_is two pairs h)) ∙ json_is two pairs (tells two pairs kept h)

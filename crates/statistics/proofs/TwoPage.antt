@@ -1,5 +1,6 @@
 -- The page of what is kept of two questions is that of the pairs.
-use Rattle.std.proofs.Common.{◌≡◌, ◌<◌, ◌++◌, ◌∙◌, ℕ, List, [], fold, length, map, max, sum, refl, sym, ap, ap₂, arith, codes, append_assoc, if◌then◌else◌}
+use Rattle.std.proofs.Common.{◌≡◌, ◌<◌, ◌++◌, ◌∙◌, ℕ, List, [], fold, length, map, max, sum, refl, sym, ap, ap₂}
+use Rattle.std.proofs.Common.{arith, codes, append_assoc, if◌then◌else◌}
 use Rattle.std.specs.List.{flat_map}
 use Rattle.std.proofs.lemmas.List.{length-map}
 use Rattle.conditions.specs.Questions.{is_condition}
@@ -9,7 +10,8 @@ use Rattle.statistics.specs.declared.two.page.PageLine.TheVariants.{Cells, Heads
 use Rattle.statistics.specs.declared.two.table.Line.TheVariants.{Page}
 use Rattle.statistics.specs.Answers.{count_of, rows}
 use Rattle.statistics.specs.Columns.{label, or_dash}
-use Rattle.statistics.specs.Page.{column_head, columns_head, columns_tail, line_head, line_tail, most_cell, page_all, page_cells, page_columns, page_means, page_two, plain, shaded}
+use Rattle.statistics.specs.Page.{column_head, columns_head, columns_tail, line_head, line_tail, most_cell, page_all}
+use Rattle.statistics.specs.Page.{page_cells, page_columns, page_means, page_two, plain, shaded}
 use Rattle.statistics.specs.Page.{most_in_row as most_in_a_row}
 use Rattle.statistics.specs.TwoQuestions.{Pairs, cell, columns, in_column, mean_or_dash, of_columns, of_rows}
 use Rattle.statistics.specs.internal.Kept.{CountsTwo, IsKeptTwo, KeptTwo, cell_at}
@@ -34,13 +36,16 @@ line_is two pairs which start text end h begins has ends =
 
 heads_are : (two : KeptTwo) (pairs : Pairs) → Tells two pairs → line_text (told two pairs) (Page Heads) ≡ page_columns (kinds_kept two) pairs
 unfolding page_columns page_start page_cell page_end
-heads_are two pairs h = line_is two pairs Heads columns_head (λ (m : ℕ). column_head (label (is_condition two.by.question) m)) columns_tail h refl (λ m lt. refl) refl
+heads_are two pairs h = line_is two pairs Heads columns_head
+    (λ (m : ℕ). column_head (label (is_condition two.by.question) m)) columns_tail h refl (λ m lt. refl) refl
 
 -- the most deals that a cell has
-most_in_row_is : (two : KeptTwo) (pairs : Pairs) (n : ℕ) → Tells two pairs → n < length two.of.counts → most_in_row (told two pairs) n ≡ most_in_a_row (kinds_kept two) pairs n
+most_in_row_is : (two : KeptTwo) (pairs : Pairs) (n : ℕ) → Tells two pairs → n < length two.of.counts
+    → most_in_row (told two pairs) n ≡ most_in_a_row (kinds_kept two) pairs n
 most_in_row_is two pairs n h low =
     ap (λ (xs : List ℕ). fold max 0 xs)
-    (map_alike (λ (m : ℕ). cell_at two n m) (λ (m : ℕ). cell pairs n m) (columns_of_two (told two pairs)) (λ m lt. h.cells n m low (omega (arith, h.columns)))
+    (map_alike (λ (m : ℕ). cell_at two n m) (λ (m : ℕ). cell pairs n m) (columns_of_two (told two pairs))
+    (λ m lt. h.cells n m low (omega (arith, h.columns)))
     ∙ ap (map (λ (m : ℕ). cell pairs n m)) (same_rows (is_condition two.by.question) (of_columns pairs)))
 
 most_is : (two : KeptTwo) (pairs : Pairs) → Tells two pairs → most_kept (told two pairs) ≡ most_cell (kinds_kept two) pairs
@@ -54,7 +59,9 @@ cells_are : (two : KeptTwo) (pairs : Pairs) (n : ℕ) → Tells two pairs → n 
     → line_text (told two pairs) (Page (Cells n (most_kept (told two pairs)))) ≡ page_cells (kinds_kept two) pairs n
 unfolding page_cells page_start page_cell page_end
 cells_are two pairs n h low =
-    line_is two pairs (Cells n (most_kept (told two pairs))) (line_head (label (is_condition two.of.asked.question) n)) (λ (m : ℕ). shaded (most_cell (kinds_kept two) pairs) (cell pairs n m))
+    line_is two pairs (Cells n (most_kept (told two pairs)))
+    (line_head (label (is_condition two.of.asked.question) n))
+    (λ (m : ℕ). shaded (most_cell (kinds_kept two) pairs) (cell pairs n m))
     (line_tail (or_dash (count_of n (of_rows pairs)))) h refl
     (λ m lt. ap₂ (λ (most c : ℕ). shaded most c) (most_is two pairs h) (h.cells n m low lt))
     (ap (λ (c : ℕ). line_tail (or_dash c)) (h.counts n low))
@@ -62,7 +69,8 @@ cells_are two pairs n h low =
 totals_are : (two : KeptTwo) (pairs : Pairs) → Tells two pairs → line_text (told two pairs) (Page Totals) ≡ page_all (kinds_kept two) pairs
 unfolding page_all page_start page_cell page_end
 totals_are two pairs h =
-    line_is two pairs Totals (line_head (codes "all")) (λ (m : ℕ). plain (or_dash (length (in_column m pairs)))) (line_tail (or_dash (length pairs))) h refl
+    line_is two pairs Totals (line_head (codes "all")) (λ (m : ℕ). plain (or_dash (length (in_column m pairs))))
+    (line_tail (or_dash (length pairs))) h refl
     (λ m lt. ap (λ (c : ℕ). plain (or_dash c)) (h.deals m lt))
     (ap (λ (c : ℕ). line_tail (or_dash c)) (length-map pairs (λ (p : ℕ × ℕ). p.0)))
 
@@ -82,14 +90,20 @@ unfolding two_text top_kept bottom_kept page_two
 page_is two pairs h =
     let lines : List ℕ = flat_map (page_cells (kinds_kept two) pairs) (rows (is_condition two.of.asked.question) (of_rows pairs)) in
     let rows_are : flat_map (two_row (told two pairs) Html) (numbers_in (rows_of_one (told two pairs).of)) ≡ lines =
-    flat_map_alike (two_row (told two pairs) Html) (page_cells (kinds_kept two) pairs) (rows_of_one (told two pairs).of) (λ n lt. cells_are two pairs n h (omega (arith, h.rows)))
+    flat_map_alike (two_row (told two pairs) Html) (page_cells (kinds_kept two) pairs)
+    (rows_of_one (told two pairs).of) (λ n lt. cells_are two pairs n h (omega (arith, h.rows)))
     ∙ ap (flat_map (page_cells (kinds_kept two) pairs)) (same_rows (is_condition two.of.asked.question) (of_rows pairs)) in
-    regrouped (line_text (told two pairs) (Page Heads)) (flat_map (two_row (told two pairs) Html) (numbers_in (rows_of_one (told two pairs).of))) (codes "</tbody>\n<tfoot>\n")
-    (line_text (told two pairs) (Page Totals)) (if is_condition two.of.asked.question then [] else line_text (told two pairs) (Page Means)) (codes "</tfoot>\n</table>\n</div>\n")
+    regrouped (line_text (told two pairs) (Page Heads)) (flat_map (two_row (told two pairs) Html)
+    (numbers_in (rows_of_one (told two pairs).of))) (codes "</tbody>\n<tfoot>\n")
+    (line_text (told two pairs) (Page Totals)) (if is_condition two.of.asked.question then [] else line_text
+    (told two pairs) (Page Means)) (codes "</tfoot>\n</table>\n</div>\n")
     ∙ ap₂ (λ (x y : List ℕ). x ++ y ++ codes "</tbody>\n<tfoot>\n" ++ line_text (told two pairs) (Page Totals)
-    ++ (if is_condition two.of.asked.question then [] else line_text (told two pairs) (Page Means)) ++ codes "</tfoot>\n</table>\n</div>\n") (heads_are two pairs h) rows_are
-    ∙ ap₂ (λ (x y : List ℕ). page_columns (kinds_kept two) pairs ++ flat_map (page_cells (kinds_kept two) pairs) (rows (is_condition two.of.asked.question) (of_rows pairs))
-    ++ codes "</tbody>\n<tfoot>\n" ++ x ++ (if is_condition two.of.asked.question then [] else y) ++ codes "</tfoot>\n</table>\n</div>\n") (totals_are two pairs h) (means_are two pairs h)
+    ++ (if is_condition two.of.asked.question then [] else line_text (told two pairs) (Page Means))
+    ++ codes "</tfoot>\n</table>\n</div>\n") (heads_are two pairs h) rows_are
+    ∙ ap₂ (λ (x y : List ℕ). page_columns (kinds_kept two) pairs
+    ++ flat_map (page_cells (kinds_kept two) pairs) (rows (is_condition two.of.asked.question) (of_rows pairs))
+    ++ codes "</tbody>\n<tfoot>\n" ++ x ++ (if is_condition two.of.asked.question then [] else y)
+    ++ codes "</tfoot>\n</table>\n</div>\n") (totals_are two pairs h) (means_are two pairs h)
 
 pub two_page_is : (two : KeptTwo) (pairs : Pairs) → IsKeptTwo two → CountsTwo two pairs → two_text two Html ≡ page_two (kinds_kept two) pairs
 two_page_is two pairs kept h = ap (λ (t : KeptTwo). two_text t Html) (sym (told_is two pairs h)) ∙ page_is two pairs (tells two pairs kept h)

@@ -1,5 +1,6 @@
 -- How long a number with commas is.
-use Rattle.std.proofs.Common.{◌≡◌, ◌∙◌, ◌≤◌, ◌<◌, ◌+◌, ◌-◌, ◌/◌, ◌%◌, ◌^◌, ◌++◌, ◌∷◌, [], ℕ, zero, suc, List, length, take, inl, inr, sym, ap, arith, length-append, eq-zero-or-pos}
+use Rattle.std.proofs.Common.{◌≡◌, ◌∙◌, ◌≤◌, ◌<◌, ◌+◌, ◌-◌, ◌/◌, ◌%◌, ◌^◌, ◌++◌, ◌∷◌, [], ℕ, zero, suc, List, length}
+use Rattle.std.proofs.Common.{take, inl, inr, sym, ap, arith, length-append, eq-zero-or-pos}
 use Rattle.std.specs.Prelude.{decimal}
 use Rattle.std.proofs.lemmas.Bool.Decides.{nat_tests}
 use Rattle.std.proofs.lemmas.Fmt.{decimal_by_steps, decimal_digit, decimal_step, decimal_nonempty, length-decimal-le}
@@ -11,12 +12,16 @@ use Rattle.statistics.proofs.Appending.{groups, groups_all, groups_more, groups_
 comma_length : (i n : ℕ) → 0 < i → i < n → length (comma_at i n) + (n - (i + 1)) / 3 ≡ (n - i) / 3
 comma_length i n some below = grind (arith, nat_tests)
 
-groups_length_more : (digits : List ℕ) (i : ℕ) → i < length digits → length (groups (length digits) (take (i + 1) digits)) ≡ length (groups (length digits) (take i digits)) + length (comma_at i (length digits)) + 1
+groups_length_more : (digits : List ℕ) (i : ℕ) → i < length digits
+    → length (groups (length digits) (take (i + 1) digits)) ≡ length (groups (length digits) (take i digits)) + length
+    (comma_at i (length digits)) + 1
 groups_length_more digits i h =
     omega (arith, ap length (groups_more (length digits) digits i h), length-append {A = ℕ})
 
 -- the first digits, at least one
-groups_length : (digits : List ℕ) (i : ℕ) → suc i ≤ length digits → length (groups (length digits) (take (suc i) digits)) + (length digits - suc i) / 3 ≡ suc i + (length digits - 1) / 3
+groups_length : (digits : List ℕ) (i : ℕ) → suc i ≤ length digits
+    → length (groups (length digits) (take (suc i) digits)) + (length digits - suc i) / 3 ≡ suc i
+    + (length digits - 1) / 3
 groups_length digits zero h =
     let first = groups_length_more digits 0 (omega arith) in
     let none : length (groups (length digits) []) ≡ 0 = ap length (groups_none (length digits)) in

@@ -1,7 +1,7 @@
 //! The line of counts, at examples.
 
 use crate::support::equals;
-use console::{Tally, tally_line};
+use sinks::console::{Tally, tally_line};
 use std::test::Fail;
 
 /// Candidates tried, boards, candidates in all where that is known, milliseconds, and the line.

@@ -1,9 +1,10 @@
 //! Lines of LIN that were worked out by hand, of two candidates of seed 0, picked by their numbers.
 
 use crate::support::{equals, holds};
-use captions::Captions;
+use boards::Captions;
+use input::numbers::{LineFault, PickFault, RefusedLine, pick};
+use input::{NoBytes, Reader};
 use notations::{AnyPrinter, Format};
-use picking::{LineFault, NoBytes, PickFault, Reader, RefusedLine, pick};
 use plans::Plan;
 use sinks::{Fuse, MemSink};
 use std::alloc::{AllocError, AllocGlobal};

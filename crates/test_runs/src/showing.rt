@@ -1,7 +1,7 @@
 //! What is on the output and on the terminal, by a clock that is set by hand.
 
 use crate::support::{equals, holds};
-use console::{Counts, Drawn, GATHERED_MILLIS, OverLine, Prompt, Remark, Style};
+use sinks::console::{Counts, Drawn, GATHERED_MILLIS, OverLine, Prompt, Remark, Style};
 use sinks::{Sink, put_all};
 use std::alloc::Global;
 use std::cell::{Cell, RefCell};

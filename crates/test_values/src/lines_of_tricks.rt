@@ -2,7 +2,7 @@
 
 use crate::support::same;
 use boards::Tricks;
-use picking::{NoBytes, Reader, read_four};
+use input::{NoBytes, Reader, read_four};
 
 const DIGITS: &[u8] = b"97b8997b892624426244";
 

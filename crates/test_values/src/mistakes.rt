@@ -3,11 +3,11 @@
 
 use cards::Fixed;
 use cond_lang::{Cond, CondError, LANGUAGE, parse};
-use hints::{explain, explain_question, note};
+use explain_conditions::{explain, explain_question, note};
+use screens::unmet::is_never;
 use sinks::put_shown;
 use std::alloc::Global;
 use std::test::Fail;
-use unmet::is_never;
 
 /// Texts, how they are refused, and all that is said of that. The error of the last one isn't the
 /// text's own: it is explained as well as it can be.

@@ -1,7 +1,8 @@
 //! Texts of numbers, and what they say.
 
 use crate::support::same;
-use picking::{LineFault, NoBytes, Reader, RefusedLine, Scanner, Source, SourceFault};
+use input::numbers::{LineFault, RefusedLine, Scanner};
+use input::{NoBytes, Reader, Source, SourceFault};
 use std::alloc::{AllocError, Global};
 use std::io::{self, Error, ErrorKind, Read};
 use std::process::Abort;

@@ -2,7 +2,7 @@
 
 use crate::support::same;
 use cond_lang::parse;
-use lessons::{name_at, named};
+use requests::lessons::{name_at, named};
 use std::test::Fail;
 
 /// More than there are.

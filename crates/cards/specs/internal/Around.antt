@@ -1,5 +1,6 @@
 -- What holds between two exchanges of the free cards, and of the masks of the fixed ones.
-use Rattle.std.specs.Prelude.{◌≡◌, ℕ, ◌+◌, ◌-◌, ◌<◌, ◌≤◌, ◌&&◌, ◌==◌, ltb, nat_le, Bool, true, List, length, map, slice_index_or, slice_index, Option, None, if◌then◌else◌}
+use Rattle.std.specs.Prelude.{◌≡◌, ℕ, ◌+◌, ◌-◌, ◌<◌, ◌≤◌, ◌&&◌, ◌==◌, ltb, nat_le, Bool, true, List, length, map}
+use Rattle.std.specs.Prelude.{slice_index_or, slice_index, Option, None, if◌then◌else◌}
 use lib.Lanes.{mask_l}
 use Rattle.lcg48.specs.Sequence.{state_after}
 use Rattle.cards.specs.declared.seat.Seat.{Seat}

@@ -2,7 +2,8 @@
 -- has the rest, and for fixed cards, since West's are in two of them. Above the first mask is 0
 -- or 1 for a deal without the flag and with it, and 2 or more for an undealt candidate, whose seed
 -- is above all three.
-use Rattle.std.specs.Prelude.{◌≡◌, ℕ, ◌+◌, ◌-◌, ◌*◌, ◌/◌, ◌%◌, ◌^◌, ◌<◌, ◌≤◌, ◌==◌, ltb, Bool, true, false, cond, List, map, Option, Some, None, if◌then◌else◌}
+use Rattle.std.specs.Prelude.{◌≡◌, ℕ, ◌+◌, ◌-◌, ◌*◌, ◌/◌, ◌%◌, ◌^◌, ◌<◌, ◌≤◌, ◌==◌, ltb, Bool, true, false, cond}
+use Rattle.std.specs.Prelude.{List, map, Option, Some, None, if◌then◌else◌}
 use Rattle.std.specs.Int.{bit_at}
 use Rattle.std.specs.Int.RustNames.{bit_or}
 use Rattle.cards.specs.declared.seat.Seat.{Seat}

@@ -11,28 +11,28 @@ use Rattle.cond_lang.specs.Meaning.{holds}
 use Rattle.plans.specs.Plans.{Planned, candidate_of}
 use Rattle.plans.specs.Text.{accepted, end_of}
 use Rattle.jobs.specs.Makings.{AreWorkers, plan_of}
-use Rattle.request_types.specs.Requests.{Look, Search}
+use Rattle.requests.specs.Requests.{Look, Search}
 use Rattle.cond_lang.specs.Form.{Form}
 use Rattle.plans.specs.declared.refusal.RefusedLine.{RefusedLine}
 use Rattle.deals_cli.specs.Wishes.{IsDrawn, seed_text}
 use Rattle.deals_cli.specs.WithTricks.{BreaksTold, FailsTold, StopsAtLine, WritesTold}
 use Rattle.deals_cli.specs.declared.tricks_job.FoundNumbers.{FoundNumbers}
 use Rattle.notations.specs.Numbers.{numbers}
-use Rattle.request_types.specs.declared.workers.Workers.{Workers}
-use Rattle.picking.specs.FourBytes.{EndsBefore}
-use Rattle.picking.specs.declared.fault.PickFault.{PickFault}
-use Rattle.picking.specs.declared.fault.PickFault.TheVariants as picks
-use Rattle.records.specs.Shown.{FaultsOf}
-use Rattle.captions.specs.Captions.{captions_in}
+use Rattle.requests.specs.declared.workers.Workers.{Workers}
+use Rattle.input.specs.FourBytes.{EndsBefore}
+use Rattle.input.specs.declared.numbers.fault.PickFault.{PickFault}
+use Rattle.input.specs.declared.numbers.fault.PickFault.TheVariants as picks
+use Rattle.input.specs.Shown.{FaultsOf}
+use Rattle.boards.specs.Captions.{captions_in}
 use Rattle.deals_cli.specs.Picked.{PicksAs}
 use Rattle.deals_cli.specs.Shown.{ShowsUnder}
-use Rattle.records.specs.declared.shown.ShowFault.{ShowFault}
-use Rattle.records.specs.declared.shown.ShowFault.TheVariants as shown
+use Rattle.input.specs.declared.records.shown.ShowFault.{ShowFault}
+use Rattle.input.specs.declared.records.shown.ShowFault.TheVariants as shown
 use Rattle.jobs.specs.Counting.{table_by}
 use Rattle.deals_cli.specs.Formats.{text_showing}
 use Rattle.jobs.specs.Jobs.{IsReadyRun}
 use Rattle.deals_cli.specs.Runs.{InterruptsRun}
-use Rattle.request_types.specs.declared.request.Notices.{Notices}
+use Rattle.requests.specs.declared.request.Notices.{Notices}
 use Rattle.deals_cli.specs.Reported.{Counts}
 use Rattle.jobs.specs.declared.failure.Failure.{Failure}
 use Rattle.jobs.specs.declared.failure.Failure.TheVariants.{EndOfInput, Input, Interrupted, Line}
@@ -44,7 +44,7 @@ use Rattle.jobs.specs.declared.job.ShowJob.{ShowJob}
 use Rattle.plans.specs.declared.report.Report.{Report}
 use Rattle.deals_cli.specs.declared.written.Written.{Written}
 use Rattle.sinks.specs.Appended.{AppendsAll, AppendsPart}
-use Rattle.told.specs.Told.{FaultsIn, InputFaultsIn}
+use Rattle.input.specs.Told.{FaultsIn, InputFaultsIn}
 use Rattle.statistics.specs.Counting.{counting}
 use Rattle.statistics.specs.Subjects.{subject_of}
 

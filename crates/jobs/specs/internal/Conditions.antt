@@ -4,7 +4,7 @@ use Rattle.conditions.specs.declared.error.CondError.{CondError}
 use Rattle.plans.specs.declared.cause.Cause.TheVariants.{Memory}
 use Rattle.jobs.specs.FirstRefusal.{AreDue, IsConditionDue, IsTextDue}
 use Rattle.jobs.specs.Makings.{MayBeGiven}
-use Rattle.request_types.specs.Requests.{Search}
+use Rattle.requests.specs.Requests.{Search}
 use Rattle.jobs.specs.declared.failure.Failure.{Failure}
 use Rattle.jobs.specs.declared.failure.Failure.TheVariants.{Condition, Definitions, Interrupted}
 

@@ -3,10 +3,10 @@ use Rattle.std.specs.Prelude.{◌≡◌, ◌⊎◌, ℕ, List, Option}
 use Rattle.conditions.specs.declared.error.CondError.{CondError}
 use Rattle.plans.specs.declared.cause.Cause.TheVariants.{Memory}
 use Rattle.jobs.specs.FirstRefusal.{AreRefused, IsQuestionDue}
-use Rattle.request_types.specs.Requests.{Questions}
+use Rattle.requests.specs.Requests.{Questions}
 use Rattle.jobs.specs.declared.failure.Failure.{Failure}
 use Rattle.jobs.specs.declared.failure.Failure.TheVariants.{Interrupted, Question}
-use Rattle.request_types.specs.declared.names.QuestionName.{QuestionName}
+use Rattle.requests.specs.declared.names.QuestionName.{QuestionName}
 
 -- memory ran out, or the text of this question is refused so
 abbrev pub IsTextFailure : Option (List ℕ) → QuestionName → List ℕ → Failure → Type 0

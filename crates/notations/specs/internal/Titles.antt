@@ -1,6 +1,6 @@
 -- How much room titles take.
 use Rattle.std.specs.Prelude.{ℕ, ◌+◌, ◌*◌, ◌≤◌, List, length}
-use Rattle.captions.specs.Room.{room}
+use Rattle.boards.specs.Room.{room}
 
 -- a text takes no more room than this many characters of ASCII
 pub record IsWithin (chars : ℕ) (text : List ℕ) : Type 0 where

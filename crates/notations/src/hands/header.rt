@@ -4,8 +4,7 @@ ghost use Rattle.std.specs.Prelude.{◌≡◌, ◌≤◌, ◌+◌, ◌++◌, [],
 ghost use Rattle.boards.specs.declared.buffer.TheConstants.{CAPACITY};
 ghost use Rattle.notations.specs.Records.{header_text, label_line};
 
-use boards::{Date, TextBuffer};
-use captions::{Caption, Captions};
+use boards::{Caption, Captions, Date, TextBuffer};
 
 /// Writes the header into the empty buffer.
 pub(crate) fn put_header(text: &mut TextBuffer, heading: &Captions)

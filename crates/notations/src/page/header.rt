@@ -2,7 +2,7 @@
 
 ghost use Rattle.std.specs.Prelude.{◌≡◌, ◌≤◌, ◌+◌, ◌++◌, [], ℕ, Some, length};
 ghost use Rattle.boards.specs.declared.buffer.TheConstants.{CAPACITY};
-ghost use Rattle.captions.specs.Room.{room, room_of};
+ghost use Rattle.boards.specs.Room.{room, room_of};
 ghost use Rattle.notations.specs.Pages.{escaped, escaped_byte, header_text, is_blank, joined};
 ghost use Rattle.notations.specs.Pages.{opening, shown, title_of};
 ghost use Rattle.notations.specs.internal.Looks.{style_of};
@@ -11,8 +11,7 @@ ghost use Rattle.notations.specs.internal.Titles.{AddsAtMost, IsWithin};
 use crate::page::style::{put_style, put_style_with_tricks};
 use crate::sheet::put_sheet_style;
 use crate::slips::put_slip_style;
-use boards::{Date, TextBuffer};
-use captions::{Caption, Captions};
+use boards::{Caption, Captions, Date, TextBuffer};
 
 /// How a page looks.
 #[derive(Clone, Copy)]

@@ -2,7 +2,7 @@
 
 ghost use Rattle.std.specs.Prelude.{◌≡◌, ◌≤◌, ◌+◌, ◌*◌, ◌++◌, length};
 ghost use Rattle.boards.specs.declared.buffer.TheConstants.{CAPACITY};
-ghost use Rattle.captions.specs.Room.{room, room_of};
+ghost use Rattle.boards.specs.Room.{room, room_of};
 ghost use Rattle.notations.specs.Style.{alone_style, beside_style, board_style, css_byte};
 ghost use Rattle.notations.specs.Style.{css_string, first_style, hand_style, number_style, page_style};
 ghost use Rattle.notations.specs.Style.{paper_style, shared_style, sign_style, style, style_with_tricks};

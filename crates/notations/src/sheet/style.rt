@@ -2,7 +2,7 @@
 
 ghost use Rattle.std.specs.Prelude.{◌≡◌, ◌≤◌, ◌+◌, ◌*◌, ◌++◌, length};
 ghost use Rattle.boards.specs.declared.buffer.TheConstants.{CAPACITY};
-ghost use Rattle.captions.specs.Room.{room};
+ghost use Rattle.boards.specs.Room.{room};
 ghost use Rattle.notations.specs.SheetStyle.{corner_style, middle_style, print_style, seat_style};
 ghost use Rattle.notations.specs.SheetStyle.{section_style, sheet_style};
 

@@ -2,7 +2,7 @@
 
 ghost use Rattle.std.specs.Prelude.{◌≡◌, ◌≤◌, ◌+◌, ◌*◌, ◌++◌, length};
 ghost use Rattle.boards.specs.declared.buffer.TheConstants.{CAPACITY};
-ghost use Rattle.captions.specs.Room.{room};
+ghost use Rattle.boards.specs.Room.{room};
 ghost use Rattle.notations.specs.SlipStyle.{card_style, cut_style, four_style, slip_style};
 
 use crate::page::{number_style, page_style, put_title_style, sign_style};

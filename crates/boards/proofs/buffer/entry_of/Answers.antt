@@ -15,7 +15,8 @@ loop-rank-init c = record {
 pub loop-rank-preserved : goal.loop-rank-preserved
 loop-rank-preserved c =
     let at_most_one : bit_and (c.args.set / 2 ^ c.loop-rank.rank) 1 ≤ 1 = and_le_r (c.args.set / 2 ^ c.loop-rank.rank) 1 in
-    let more = next_rank c.loop-rank.entry c.args.set c.loop-rank.rank c.loop-rank.end _ c.loop-rank-test.true (omega arith) refl c.loop-rank.invariant.written c.loop-rank.invariant.count in
+    let more = next_rank c.loop-rank.entry c.args.set c.loop-rank.rank c.loop-rank.end _ c.loop-rank-test.true
+    (omega arith) refl c.loop-rank.invariant.written c.loop-rank.invariant.count in
     record {
       written = more.0;
       size = simp length-set c.loop-rank.invariant.size;
@@ -24,4 +25,5 @@ loop-rank-preserved c =
     }
 
 pub returns : goal.returns
-returns c = whole_entry c.loop-rank.entry c.args.set c.loop-rank.rank c.loop-rank.end (omega arith) c.loop-rank.invariant.size c.loop-rank.invariant.room c.loop-rank.invariant.written c.loop-rank.invariant.count
+returns c = whole_entry c.loop-rank.entry c.args.set c.loop-rank.rank c.loop-rank.end (omega arith)
+    c.loop-rank.invariant.size c.loop-rank.invariant.room c.loop-rank.invariant.written c.loop-rank.invariant.count

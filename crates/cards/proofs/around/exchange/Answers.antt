@@ -7,7 +7,8 @@ pub returns-clause-cards : goal.returns-clause-cards
 returns-clause-cards c =
     let inside : c.args.position < length c.args.cards.now = omega arith in
     let low : c.from-place.result < length c.args.cards.now = omega arith in
-    cards_swapped c.args.cards.now _ c.args.position c.from-place.result (omega arith) c.requires.inside (omega arith) (swap_is c.args.cards.now c.args.position c.from-place.result 0 inside low) c.requires.cards
+    cards_swapped c.args.cards.now _ c.args.position c.from-place.result (omega arith) c.requires.inside (omega arith)
+    (swap_is c.args.cards.now c.args.position c.from-place.result 0 inside low) c.requires.cards
 
 pub returns-clause-dealing : goal.returns-clause-dealing
 returns-clause-dealing c fixed free x old below drawn before =
@@ -20,4 +21,5 @@ pub returns-clause-card : goal.returns-clause-card
 returns-clause-card c =
     let inside : c.args.position < length c.args.cards.now = omega arith in
     let low : c.from-place.result < length c.args.cards.now = omega arith in
-    sym (swapped_from_swap c.args.cards.now _ c.args.position c.from-place.result 0 inside low (swap_is c.args.cards.now c.args.position c.from-place.result 0 inside low)).0
+    sym (swapped_from_swap c.args.cards.now _ c.args.position c.from-place.result 0 inside low
+    (swap_is c.args.cards.now c.args.position c.from-place.result 0 inside low)).0

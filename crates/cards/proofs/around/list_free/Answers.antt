@@ -26,7 +26,9 @@ loop-card-preserved c =
         all = omega (arith, w.count-is, before.all, count_by_more_yes is_free seats i None (omega arith) (sym c.is_open.ensures ∙ w.if-is_open.true));
         long = rw w.free-is (simp length-set before.long);
         few = omega (arith, w.count-is, before.few);
-        listed = subst (IsListed seats c.if-is_open.free) (sym w.count-is) (rw w.free-is (one_listed seats c.loop-card.free c.loop-card.count i before.long before.few (omega arith) before.all (sym c.is_open.ensures ∙ w.if-is_open.true) before.listed));
+        listed = subst (IsListed seats c.if-is_open.free) (sym w.count-is)
+            (rw w.free-is (one_listed seats c.loop-card.free c.loop-card.count i before.long before.few (omega arith)
+            before.all (sym c.is_open.ensures ∙ w.if-is_open.true) before.listed));
       }
       | else-is_open w ↦ record {
         all = omega (arith, w.count-is, before.all, count_by_more_no is_free seats i None (omega arith) (sym c.is_open.ensures ∙ w.if-is_open.false));

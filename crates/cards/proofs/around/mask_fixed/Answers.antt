@@ -12,6 +12,8 @@ loop-card-preserved c =
     let inside : c.loop-card.card < length cards = simp length-map (omega arith) in
     let read = get_or-map (is_fixed_at c.args.seat) c.args.seats.now c.loop-card.card None false (omega arith) in
     elim c.if-is_at.branch [
-      | then-is_at w ↦ bit_taken cards c.loop-card.card c.loop-card.mask c.if-is_at.mask inside (omega arith) c.loop-card.invariant (read ∙ sym c.is_at.ensures ∙ w.if-is_at.true) w.mask-is
-      | else-is_at w ↦ bit_passed cards c.loop-card.card c.loop-card.mask c.if-is_at.mask inside c.loop-card.invariant (read ∙ sym c.is_at.ensures ∙ w.if-is_at.false) w.mask-is
+      | then-is_at w ↦ bit_taken cards c.loop-card.card c.loop-card.mask c.if-is_at.mask inside (omega arith)
+          c.loop-card.invariant (read ∙ sym c.is_at.ensures ∙ w.if-is_at.true) w.mask-is
+      | else-is_at w ↦ bit_passed cards c.loop-card.card c.loop-card.mask c.if-is_at.mask inside c.loop-card.invariant
+          (read ∙ sym c.is_at.ensures ∙ w.if-is_at.false) w.mask-is
     ]

@@ -21,17 +21,28 @@ loop-pair-preserved c =
       cards = c.exchange-lower.ensures.cards;
       settled =
           settled_at _ _ _ _ _ _ _ _ g
-          (one_settled c.args.generator.now two.result.0 two.result.1 two.new.self c.args.cards.now c.exchange-upper.new.cards c.exchange-lower.new.cards _ p q c.args.end c.exchange-lower.result two.ensures.second f (omega arith)
-          (one_settled c.args.generator.now c.loop-pair.generator two.result.0 two.result.0 c.args.cards.now c.loop-pair.cards c.exchange-upper.new.cards c.loop-pair.mask _ p c.args.end c.exchange-upper.result refl e (omega arith)
-          c.loop-pair.invariant.settled (λ fixed free x all d. c.exchange-upper.ensures.dealing fixed free x c.loop-pair.generator all two.ensures.first d) c.exchange-upper.ensures.card c.exchange-upper.ensures.below)
-          (λ fixed free x all d. c.exchange-lower.ensures.dealing fixed free x two.result.0 all (two.ensures.second ∙ two.ensures.stepped ∙ ap step (sym two.ensures.first)) d) c.exchange-lower.ensures.card c.exchange-lower.ensures.below);
+          (one_settled c.args.generator.now two.result.0 two.result.1 two.new.self c.args.cards.now
+          c.exchange-upper.new.cards c.exchange-lower.new.cards _ p q c.args.end c.exchange-lower.result
+          two.ensures.second f (omega arith)
+          (one_settled c.args.generator.now c.loop-pair.generator two.result.0 two.result.0 c.args.cards.now
+          c.loop-pair.cards c.exchange-upper.new.cards c.loop-pair.mask _ p c.args.end c.exchange-upper.result
+          refl e (omega arith)
+          c.loop-pair.invariant.settled (λ fixed free x all d. c.exchange-upper.ensures.dealing fixed free x
+          c.loop-pair.generator all two.ensures.first d) c.exchange-upper.ensures.card
+          c.exchange-upper.ensures.below)
+          (λ fixed free x all d. c.exchange-lower.ensures.dealing fixed free x two.result.0 all
+          (two.ensures.second ∙ two.ensures.stepped ∙ ap step (sym two.ensures.first)) d)
+          c.exchange-lower.ensures.card c.exchange-lower.ensures.below);
     }
 
 pub returns-then-count-eq1-clause-settled : goal.returns-then-count-eq1-clause-settled
 returns-then-count-eq1-clause-settled c =
-    one_settled c.args.generator.now c.loop-pair.generator c.next.result c.next.new.self c.args.cards.now c.loop-pair.cards c.exchange-card.new.cards c.loop-pair.mask _ (c.args.end - c.args.count) c.args.end c.exchange-card.result
+    one_settled c.args.generator.now c.loop-pair.generator c.next.result c.next.new.self c.args.cards.now
+    c.loop-pair.cards c.exchange-card.new.cards c.loop-pair.mask _ (c.args.end - c.args.count) c.args.end
+    c.exchange-card.result
     c.next.ensures.value (omega arith) (omega arith) c.loop-pair.invariant.settled
-    (λ fixed free x all d. c.exchange-card.ensures.dealing fixed free x c.loop-pair.generator all (c.next.ensures.value ∙ c.next.ensures.stepped) d) c.exchange-card.ensures.card c.exchange-card.ensures.below
+    (λ fixed free x all d. c.exchange-card.ensures.dealing fixed free x c.loop-pair.generator all
+    (c.next.ensures.value ∙ c.next.ensures.stepped) d) c.exchange-card.ensures.card c.exchange-card.ensures.below
 
 pub returns-else-count-eq1-clause-settled : goal.returns-else-count-eq1-clause-settled
 returns-else-count-eq1-clause-settled c =

@@ -16,7 +16,8 @@ itself n e s w = grind (arith, nat_tests)
 
 -- deals with the same masks are the same
 same_deals : (a b : List Seat) (same : Bool) → IsPartition a → IsPartition b
-    → same ≡ (seat_mask a North == seat_mask b North && (seat_mask a East == seat_mask b East && (seat_mask a South == seat_mask b South && seat_mask a West == seat_mask b West)))
+    → same ≡ (seat_mask a North == seat_mask b North && (seat_mask a East == seat_mask b East &&
+    (seat_mask a South == seat_mask b South && seat_mask a West == seat_mask b West)))
     → IsTrue same ↔ (a ≡ b)
 same_deals a b same p q is = (
   λ h.

@@ -10,7 +10,12 @@ use Rattle.cards.proofs.Tracing.{card_at-below, card_at-injective}
 use Rattle.cards.proofs.places.seats_after.Goals as goal
 
 pub bounds-seats-from : goal.bounds-seats-from
-bounds-seats-from c = omega (arith, c.from.ensures, c.exchanged-pack.ensures c.loop-position.position (omega arith), card_at-below c.args.places.now c.loop-position.position c.requires (omega arith))
+bounds-seats-from c = omega (
+  arith,
+  c.from.ensures,
+  c.exchanged-pack.ensures c.loop-position.position (omega arith),
+  card_at-below c.args.places.now c.loop-position.position c.requires (omega arith),
+)
 
 pub loop-position-init : goal.loop-position-init
 loop-position-init c = record {
@@ -22,14 +27,20 @@ pub loop-position-preserved : goal.loop-position-preserved
 loop-position-preserved c =
     let places = c.args.places.now in
     let before = c.loop-position.invariant in
-    let at : c.from.result ≡ card_at places c.loop-position.position = c.from.ensures ∙ c.exchanged-pack.ensures c.loop-position.position (omega arith) in
+    let at : c.from.result ≡ card_at places c.loop-position.position = c.from.ensures
+    ∙ c.exchanged-pack.ensures c.loop-position.position (omega arith) in
     record {
       long = simp length-set before.long;
       dealt = below_more _ _
           (λ (k : ℕ) (h : k < c.loop-position.position).
-          let apart : card_at places k ≢ c.from.result = λ e. let same : k ≡ c.loop-position.position = card_at-injective places k c.loop-position.position (e ∙ at) in absurd (omega arith) in
+          let apart : card_at places k ≢ c.from.result = λ e. let same : k ≡ c.loop-position.position =
+          card_at-injective places k c.loop-position.position (e ∙ at) in absurd (omega arith) in
           rw (get_or-set_other c.loop-position.seats c.from.result (card_at places k) c.at_position.result North apart) (before.dealt k h))
-          (rw (← at, get_or-set_same c.loop-position.seats c.from.result c.at_position.result North (omega (arith, bounds-seats-from c, before.long))) c.at_position.ensures);
+          (rw (
+            ← at,
+            get_or-set_same c.loop-position.seats c.from.result c.at_position.result North
+                (omega (arith, bounds-seats-from c, before.long)),
+          ) c.at_position.ensures);
     }
 
 pub returns : goal.returns

@@ -13,8 +13,10 @@ loop-card-preserved c =
     let inside : c.loop-card.card < length cards = simp length-map (omega arith) in
     let read = get_or-map (λ w. bit_at w c.args.bit == 1) c.args.weights.now c.loop-card.card 0 false (omega arith) in
     elim c.if-has_bit.branch [
-      | then-has_bit w ↦ with_card cards c.loop-card.card c.loop-card.mask c.if-has_bit.mask inside (omega arith) c.loop-card.invariant (read ∙ sym c.has_bit.ensures ∙ w.if-has_bit.true) w.mask-is
-      | else-has_bit w ↦ without_card cards c.loop-card.card c.loop-card.mask c.if-has_bit.mask inside c.loop-card.invariant (read ∙ sym c.has_bit.ensures ∙ w.if-has_bit.false) w.mask-is
+      | then-has_bit w ↦ with_card cards c.loop-card.card c.loop-card.mask c.if-has_bit.mask inside (omega arith)
+          c.loop-card.invariant (read ∙ sym c.has_bit.ensures ∙ w.if-has_bit.true) w.mask-is
+      | else-has_bit w ↦ without_card cards c.loop-card.card c.loop-card.mask c.if-has_bit.mask inside
+          c.loop-card.invariant (read ∙ sym c.has_bit.ensures ∙ w.if-has_bit.false) w.mask-is
     ]
 
 pub returns-clause-value : goal.returns-clause-value

@@ -1,7 +1,7 @@
 use Rattle.std.proofs.Common.{◌∙◌, ap, is_some, sym, Some}
 use Rattle.clap.specs.Words.{found_of, rows_of}
 use Rattle.clap.specs.declared.error.kind.ErrorKind.TheVariants.{ArgumentConflict, InvalidValue, MissingRequiredArgument, ValueValidation}
-use Rattle.request_types.specs.Requests.{Wish}
+use Rattle.requests.specs.Requests.{Wish}
 use Rattle.command_line.specs.CommandLine.{lacks_option, made_by}
 use Rattle.command_line.proofs.Asked.{refused_asked, refused_kind}
 use Rattle.command_line.proofs.words.dealing_request.Goals as goal
@@ -14,15 +14,19 @@ request_by-requires c = c.requires.first_board
 
 pub returns-in-Some : goal.returns-in-Some
 returns-in-Some c words at =
-    let unknown = sym c.unknown_in.ensures ∙ ap is_some c.in-Some.is in
-    (λ some. refused_asked words InvalidValue (at.unknown unknown) some, refused_kind words InvalidValue c.written.result (at.unknown unknown) (c.written.ensures InvalidValue c.invalid_value.ensures))
+    let unknown = sym c.unknown_in.ensures ∙ ap is_some c.in-Some.is in (
+      λ some. refused_asked words InvalidValue (at.unknown unknown) some,
+      refused_kind words InvalidValue c.written.result (at.unknown unknown)
+          (c.written.ensures InvalidValue c.invalid_value.ensures),
+    )
 
 pub returns-in-Some-no_lesson_in : goal.returns-in-Some-no_lesson_in
 returns-in-Some-no_lesson_in c words at =
     let known = sym c.unknown_in.ensures ∙ ap is_some c.in_default.is in
     let none = sym c.no_lesson_in.ensures ∙ ap is_some c.in-Some-no_lesson_in.is in (
       λ some. refused_asked words InvalidValue (at.no_lesson known none) some,
-      refused_kind words InvalidValue c.written-in-Some-no_lesson_in.result (at.no_lesson known none) (c.written-in-Some-no_lesson_in.ensures InvalidValue c.invalid_name.ensures),
+      refused_kind words InvalidValue c.written-in-Some-no_lesson_in.result (at.no_lesson known none)
+          (c.written-in-Some-no_lesson_in.ensures InvalidValue c.invalid_name.ensures),
     )
 
 pub returns-in-Some-bad_workers_in : goal.returns-in-Some-bad_workers_in
@@ -31,7 +35,8 @@ returns-in-Some-bad_workers_in c words at =
     let taught = sym c.no_lesson_in.ensures ∙ ap is_some c.in_default-no_lesson_in.is in
     let bad = sym c.bad_workers_in.ensures ∙ ap is_some c.in-Some-bad_workers_in.is in (
       λ some. refused_asked words ValueValidation (at.bad_workers known taught bad) some,
-      refused_kind words ValueValidation c.written-in-Some-bad_workers_in.result (at.bad_workers known taught bad) (c.written-in-Some-bad_workers_in.ensures ValueValidation c.invalid_number.ensures),
+      refused_kind words ValueValidation c.written-in-Some-bad_workers_in.result (at.bad_workers known taught bad)
+          (c.written-in-Some-bad_workers_in.ensures ValueValidation c.invalid_number.ensures),
     )
 
 pub returns-in-Some-missing_of : goal.returns-in-Some-missing_of
@@ -40,9 +45,12 @@ returns-in-Some-missing_of c words at =
     let taught = sym c.no_lesson_in.ensures ∙ ap is_some c.in_default-no_lesson_in.is in
     let counted = sym c.bad_workers_in.ensures ∙ ap is_some c.in_default-bad_workers_in.is in
     let rows = rows_of (found_of c.args.matches.now) in
-    let lacks = ap (λ s. lacks_option c.args.dealing s rows) (sym c.search_in-search.ensures) ∙ sym c.missing_of.ensures ∙ ap is_some c.in-Some-missing_of.is in (
+    let lacks = ap (λ s. lacks_option c.args.dealing s rows) (sym c.search_in-search.ensures)
+    ∙ sym c.missing_of.ensures ∙ ap is_some c.in-Some-missing_of.is in (
       λ some. refused_asked words MissingRequiredArgument (at.missing known taught counted lacks) some,
-      refused_kind words MissingRequiredArgument c.written-in-Some-missing_of.result (at.missing known taught counted lacks) (c.written-in-Some-missing_of.ensures MissingRequiredArgument c.missing_option.ensures),
+      refused_kind words MissingRequiredArgument c.written-in-Some-missing_of.result
+          (at.missing known taught counted lacks) (c.written-in-Some-missing_of.ensures MissingRequiredArgument
+          c.missing_option.ensures),
     )
 
 pub returns-in-Some-extra_of : goal.returns-in-Some-extra_of
@@ -51,10 +59,13 @@ returns-in-Some-extra_of c words at =
     let taught = sym c.no_lesson_in.ensures ∙ ap is_some c.in_default-no_lesson_in.is in
     let counted = sym c.bad_workers_in.ensures ∙ ap is_some c.in_default-bad_workers_in.is in
     let rows = rows_of (found_of c.args.matches.now) in
-    let lacks = ap (λ s. lacks_option c.args.dealing s rows) (sym c.search_in-search.ensures) ∙ sym c.missing_of.ensures ∙ ap is_some c.in_default-missing_of.is in
+    let lacks = ap (λ s. lacks_option c.args.dealing s rows) (sym c.search_in-search.ensures)
+    ∙ sym c.missing_of.ensures ∙ ap is_some c.in_default-missing_of.is in
     let extra = sym c.extra_of.ensures ∙ ap is_some c.in-Some-extra_of.is in (
       λ some. refused_asked words ArgumentConflict (at.extra known taught counted lacks extra) some,
-      refused_kind words ArgumentConflict c.written-in-Some-extra_of.result (at.extra known taught counted lacks extra) (c.written-in-Some-extra_of.ensures ArgumentConflict c.conflicting_option.ensures),
+      refused_kind words ArgumentConflict c.written-in-Some-extra_of.result
+          (at.extra known taught counted lacks extra) (c.written-in-Some-extra_of.ensures ArgumentConflict
+          c.conflicting_option.ensures),
     )
 
 pub returns : goal.returns
@@ -63,7 +74,8 @@ returns c words at =
     let taught = sym c.no_lesson_in.ensures ∙ ap is_some c.in_default-no_lesson_in.is in
     let counted = sym c.bad_workers_in.ensures ∙ ap is_some c.in_default-bad_workers_in.is in
     let rows = rows_of (found_of c.args.matches.now) in
-    let lacks = ap (λ s. lacks_option c.args.dealing s rows) (sym c.search_in-search.ensures) ∙ sym c.missing_of.ensures ∙ ap is_some c.in_default-missing_of.is in
+    let lacks = ap (λ s. lacks_option c.args.dealing s rows) (sym c.search_in-search.ensures)
+    ∙ sym c.missing_of.ensures ∙ ap is_some c.in_default-missing_of.is in
     let extra = sym c.extra_of.ensures ∙ ap is_some c.in_default-extra_of.is in
     at.ends known taught counted lacks extra ∙ ap (λ s. Some (made_by c.args.dealing s rows)) (sym c.search_in-search.ensures)
     ∙ ap (λ (w : Wish). Some w) (sym c.request_by.ensures)

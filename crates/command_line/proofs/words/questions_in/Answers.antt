@@ -9,10 +9,12 @@ returns-in-Some c =
     c.questions_from.ensures
     ∙ ap₂ questions_from
     (ap (λ (o : Option (List Text)). unwrap_or o [])
-    (sym (ap (option_map (λ s. map (λ v. v.now) s.now)) c.in-Some.is) ∙ c.get_strs.ensures ∙ raw_values-rows (found_of c.args.matches.now) (codes "of")))
+    (sym (ap (option_map (λ s. map (λ v. v.now) s.now)) c.in-Some.is) ∙ c.get_strs.ensures
+    ∙ raw_values-rows (found_of c.args.matches.now) (codes "of")))
     c.text_in.ensures
 
 pub returns-in-None : goal.returns-in-None
 returns-in-None c =
     ap (λ (o : Option (List Text)). questions_from (unwrap_or o []) (first_of (codes "by") (rows_of (found_of c.args.matches.now))))
-    (sym (ap (option_map (λ s. map (λ v. v.now) s.now)) c.in-None.is) ∙ c.get_strs.ensures ∙ raw_values-rows (found_of c.args.matches.now) (codes "of"))
+    (sym (ap (option_map (λ s. map (λ v. v.now) s.now)) c.in-None.is) ∙ c.get_strs.ensures
+    ∙ raw_values-rows (found_of c.args.matches.now) (codes "of"))

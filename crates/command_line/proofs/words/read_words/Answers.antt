@@ -4,7 +4,7 @@ use Rattle.clap.specs.Words.{found_of, rows_of}
 use Rattle.command_line.specs.CommandLine.{asked, read_kinds, unless_fault, wish_in}
 use Rattle.command_line.specs.internal.Asking.{Asks, HasValues}
 use Rattle.command_line.proofs.Asked.{chosen, err_kind, error_kind, same_subcommand}
-use Rattle.request_types.specs.Requests.{conditions}
+use Rattle.requests.specs.Requests.{conditions}
 use Rattle.command_line.proofs.words.read_words.Goals as goal
 
 pub returns-then-asks_page : goal.returns-then-asks_page
@@ -24,19 +24,23 @@ returns-in_err-matches c =
 
 pub unwrap-requires-2 : goal.unwrap-requires-2
 unwrap-requires-2 c =
-    let at = chosen _ (map string_bytes c.args.words.now) c.in_ok-matches.matches c.subcommand.result c.unwrap.result c.in_ok-command.ensures c.in_ok-matches.ensures.matches
+    let at = chosen _ (map string_bytes c.args.words.now) c.in_ok-matches.matches c.subcommand.result c.unwrap.result
+    c.in_ok-command.ensures c.in_ok-matches.ensures.matches
     c.in_ok-matches.ensures.kinds c.subcommand.ensures.name c.subcommand.ensures.rows c.unwrap.ensures (sym c.if-asks_page.ensures) in
     rw (c.subcommand_named.ensures, at.named) refl
 
 pub request_of-requires : goal.request_of-requires
 request_of-requires c =
-    let at = chosen _ (map string_bytes c.args.words.now) c.in_ok-matches.matches c.subcommand.result c.unwrap.result c.in_ok-command.ensures c.in_ok-matches.ensures.matches
+    let at = chosen _ (map string_bytes c.args.words.now) c.in_ok-matches.matches c.subcommand.result c.unwrap.result
+    c.in_ok-command.ensures c.in_ok-matches.ensures.matches
     c.in_ok-matches.ensures.kinds c.subcommand.ensures.name c.subcommand.ensures.rows c.unwrap.ensures (sym c.if-asks_page.ensures) in
-    subst (λ s. HasValues s (rows_of (found_of c.unwrap.result.1.now))) (same_subcommand at.named c.subcommand_named.ensures c.unwrap-2.ensures) at.values
+    subst (λ s. HasValues s (rows_of (found_of c.unwrap.result.1.now)))
+    (same_subcommand at.named c.subcommand_named.ensures c.unwrap-2.ensures) at.values
 
 pub returns : goal.returns
 returns c =
     let words = map string_bytes c.args.words.now in
     let at = chosen _ words c.in_ok-matches.matches c.subcommand.result c.unwrap.result c.in_ok-command.ensures c.in_ok-matches.ensures.matches
     c.in_ok-matches.ensures.kinds c.subcommand.ensures.name c.subcommand.ensures.rows c.unwrap.ensures (sym c.if-asks_page.ensures) in
-    c.request_of.ensures words (subst (λ s. Asks words s (rows_of (found_of c.unwrap.result.1.now))) (same_subcommand at.named c.subcommand_named.ensures c.unwrap-2.ensures) at.asks)
+    c.request_of.ensures words (subst (λ s. Asks words s (rows_of (found_of c.unwrap.result.1.now)))
+    (same_subcommand at.named c.subcommand_named.ensures c.unwrap-2.ensures) at.asks)

@@ -5,5 +5,6 @@ use Rattle.command_line.proofs.words.u64_in.Goals as goal
 
 pub returns : goal.returns
 returns c =
-    read64 (λ bs r. ParsesUnsigned 64 10 bs r × ExplainsUnsignedError 10 bs r × HasUnsignedDigitsIfOk bs r) (found_of c.args.matches.now) c.args.id.now c.get_one.result
+    read64 (λ bs r. ParsesUnsigned 64 10 bs r × ExplainsUnsignedError 10 bs r × HasUnsignedDigitsIfOk bs r)
+    (found_of c.args.matches.now) c.args.id.now c.get_one.result
     c.requires c.get_one.ensures.none c.get_one.ensures.value (λ u x g. g.0)

@@ -38,13 +38,15 @@ returns-in_err-tree-clause-fault g c = λ e h. absurd (no_tokens c.args.text.now
 pub returns-in_err-tree-clause-spelled : goal.returns-in_err-tree-clause-spelled
 returns-in_err-tree-clause-spelled g c = λ t h few.
     let p = err_from_is_err_and c.from_residual-in_err-tree.result c.from_residual-in_err-tree.ensures.1 in
-    let s = its_tokens_spell c.args.text.now c.in_ok-tokens.tokens.items c.as_slice.result.now t c.in_ok-tokens.ensures.tokens c.as_slice.ensures.value h in
+    let s = its_tokens_spell c.args.text.now c.in_ok-tokens.tokens.items c.as_slice.result.now t
+    c.in_ok-tokens.ensures.tokens c.as_slice.ensures.value h in
     rw (p.1, p.2) (no_more _ (parts_of t) few (c.in_err-tree.ensures.found t s))
 
 pub returns-in_err-tree-clause-too_many : goal.returns-in_err-tree-clause-too_many
 returns-in_err-tree-clause-too_many g c = λ t h more.
     let p = err_from_is_err_and c.from_residual-in_err-tree.result c.from_residual-in_err-tree.ensures.1 in
-    let s = its_tokens_spell c.args.text.now c.in_ok-tokens.tokens.items c.as_slice.result.now t c.in_ok-tokens.ensures.tokens c.as_slice.ensures.value h in
+    let s = its_tokens_spell c.args.text.now c.in_ok-tokens.tokens.items c.as_slice.result.now t
+    c.in_ok-tokens.ensures.tokens c.as_slice.ensures.value h in
     rw (p.1, p.2) (one_of _ (parts_of t) (c.in_err-tree.ensures.found t s))
 
 pub of_tree-requires : goal.of_tree-requires

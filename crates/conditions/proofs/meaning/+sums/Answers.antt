@@ -14,5 +14,6 @@ pub value_in-sum_in-requires : goal.value_in-sum_in-requires
 value_in-sum_in-requires t c =
     let left = amount_of c.deref.result.now in
     let right = amount_of c.deref-in-Sum.result.now in
-    let all : atoms_of (amount_of c.args.value.now) ≡ atoms_of left + atoms_of right = rw (c.in-Sum.is, c.deref.ensures, c.deref-in-Sum.ensures) refl in
+    let all : atoms_of (amount_of c.args.value.now) ≡ atoms_of left + atoms_of right =
+    rw (c.in-Sum.is, c.deref.ensures, c.deref-in-Sum.ensures) refl in
     (omega (arith, some_atom left, all), omega (arith, c.requires, all))

@@ -11,7 +11,9 @@ returns-then-not-start_all-clause-ends g c =
     let handles = c.start_all.new.handles in
     let len : length lanes.items ≡ p.workers = omega (arith, lanes.ok.0, c.join_all.ensures.len, c.in-Ok.ensures.len.1) in
     let few : vec_len handles < p.workers = omega (arith, c.start_all.ensures.not_all c.if-not-start_all.true, c.in-Ok.ensures.len.0) in
-    not_started (g.N.Notation.layout c.args.notation.now) p c.args.cond (vec_len handles) (map (λ h. verdicts_around h.promise.job.value) handles.items) (map (λ a. verdicts_around a.job) c.in-Ok.assignments.items) c.in-Ok.lanes.items lanes.items _ _ _
+    not_started (g.N.Notation.layout c.args.notation.now) p c.args.cond (vec_len handles)
+    (map (λ h. verdicts_around h.promise.job.value) handles.items)
+    (map (λ a. verdicts_around a.job) c.in-Ok.assignments.items) c.in-Ok.lanes.items lanes.items _ _ _
     c.in-Ok.ensures.few.0 len few c.in-Ok.ensures.jobs c.start_all.ensures.jobs c.join_all.ensures.joined
     (λ k e above below. c.join_all.ensures.rest k e above (omega (arith, below, lanes.ok.0))) c.join_all.ensures.taken c.in-Ok.ensures.idle
 
@@ -20,6 +22,8 @@ returns-clause-ends g c =
     let p = c.args.plan.now in
     let handles = c.start_all.new.handles in
     let assigned = c.in-Ok.assignments in
-    let whole : vec_len handles ≡ length (map (λ a. verdicts_around a.job) assigned.items) = simp length-map (omega (arith, c.start_all.ensures.all c.if-not-start_all.false, assigned.ok.0)) in
+    let whole : vec_len handles ≡ length (map (λ a. verdicts_around a.job) assigned.items) =
+    simp length-map (omega (arith, c.start_all.ensures.all c.if-not-start_all.false, assigned.ok.0)) in
     c.write_all.ensures.ends c.args.cond
-    (all_owe p c.args.cond (vec_len handles) (map (λ h. verdicts_around h.promise.job.value) handles.items) (map (λ a. verdicts_around a.job) assigned.items) c.start_all.ensures.jobs whole c.in-Ok.ensures.jobs)
+    (all_owe p c.args.cond (vec_len handles) (map (λ h. verdicts_around h.promise.job.value) handles.items)
+    (map (λ a. verdicts_around a.job) assigned.items) c.start_all.ensures.jobs whole c.in-Ok.ensures.jobs)

@@ -10,7 +10,9 @@ loop-worker-preserved g c =
     let p = c.in_ok-push.ensures.items in
     let q = c.in_ok-push-2.ensures.items in record {
       len = (c.in_ok-push.ensures.len ∙ ap (λ n. n + 1) i.len.0, c.in_ok-push-2.ensures.len ∙ ap (λ n. n + 1) i.len.1);
-      jobs = map_snoc _ _ _ _ _ _ p i.jobs c.in_ok-assignment.ensures.job ∙ sym (map-range_with_len_more (verdicts_for c.args.plan.now c.args.cond.now) 0 c.loop-worker.worker c.loop-worker.worker (omega arith));
+      jobs = map_snoc _ _ _ _ _ _ p i.jobs c.in_ok-assignment.ensures.job
+          ∙ sym (map-range_with_len_more (verdicts_for c.args.plan.now c.args.cond.now) 0 c.loop-worker.worker
+          c.loop-worker.worker (omega arith));
       rings = map_snoc _ _ _ _ _ _ p i.rings c.in_ok-assignment.ensures.ring ∙ sym (map_snoc _ _ _ _ _ _ q (refl) (refl));
       idle = all_snoc (λ v. (v.taken ≡ []) × (v.settled ≡ false)) _ _ _ q i.idle c.in_ok-assignment.ensures.taker;
     }

@@ -19,7 +19,8 @@ returns-in_err-put_all-clause-bytes g c =
     let state = c.nrand.ensures.stepped ∙ ap step c.loop.invariant.state in
     let text : c.as_slice.result.now ≡ next_line c.args.seed c.loop.counter =
     c.as_slice.ensures.value ∙ (c.line_of.ensures ∙ ap line (c.nrand.ensures.value ∙ ap value_of state)) in
-    let part = part_of_lines c.args.seed c.loop.counter c.args.count c.as_slice.result.now c.loop-test.true text c.loop.invariant.bytes c.in_err-put_all.ensures.bytes in
+    let part = part_of_lines c.args.seed c.loop.counter c.args.count c.as_slice.result.now c.loop-test.true text
+    c.loop.invariant.bytes c.in_err-put_all.ensures.bytes in
     MatchResult-from_err c.from_residual.result _ _ c.from_residual.ensures.0 (λ _. part)
 
 pub loop-preserved : goal.loop-preserved
@@ -29,6 +30,8 @@ loop-preserved g c =
     c.as_slice.ensures.value ∙ (c.line_of.ensures ∙ ap line (c.nrand.ensures.value ∙ ap value_of state)) in
     record {
       state = state ∙ sym (state-more c.args.seed c.loop.counter);
-      bytes = lines_appended (g.S.Sink.bytes c.args.sink.now) (g.S.Sink.bytes c.loop.sink) (g.S.Sink.bytes c.put_all.new.sink) c.args.seed c.loop.counter c.as_slice.result.now text c.loop.invariant.bytes c.in_ok-put_all.ensures.bytes;
+      bytes = lines_appended (g.S.Sink.bytes c.args.sink.now) (g.S.Sink.bytes c.loop.sink)
+          (g.S.Sink.bytes c.put_all.new.sink) c.args.seed c.loop.counter c.as_slice.result.now text
+          c.loop.invariant.bytes c.in_ok-put_all.ensures.bytes;
       faults = search rules;
     }

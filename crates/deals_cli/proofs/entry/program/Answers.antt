@@ -9,6 +9,8 @@ returns-clause-told g c w is failed =
 
 pub returns-clause-status : goal.returns-clause-status
 returns-clause-status g c other =
-    six (map string_bytes c.args.words.now) (asked (map string_bytes c.args.words.now)) c.program_with_input.result _ _ _ _ _ c.program_with_input.ensures.status
-    (λ w is failed. without w c.program_with_input.result _ _ _ _ _ _ (λ (bad : 0 ≡ 0 + 1). omega (arith, bad)) (c.program_with_input.ensures.told w is failed))
+    six (map string_bytes c.args.words.now) (asked (map string_bytes c.args.words.now)) c.program_with_input.result _
+    _ _ _ _ c.program_with_input.ensures.status
+    (λ w is failed. without w c.program_with_input.result _ _ _ _ _ _ (λ (bad : 0 ≡ 0 + 1). omega (arith, bad))
+    (c.program_with_input.ensures.told w is failed))
     c.program_with_input.ensures.asked.unasked (λ w is needs. other (w, is, needs))

@@ -7,10 +7,12 @@ pub returns-clause-text : goal.returns-clause-text
 returns-clause-text g c w asks zero = text_at_zero _ _ w _ _ _ _ _ c.answer-ended.ensures.answers c.conclude.ensures.status asks zero
 
 pub returns-clause-asked : goal.returns-clause-asked
-returns-clause-asked g c = subst (IsStatusFor (map string_bytes c.args.words.now)) (sym c.conclude.ensures.status) c.answer-ended.ensures.answers.status
+returns-clause-asked g c = subst (IsStatusFor (map string_bytes c.args.words.now)) (sym c.conclude.ensures.status)
+    c.answer-ended.ensures.answers.status
 
 pub returns-clause-told : goal.returns-clause-told
-returns-clause-told g c w asks failed = why _ _ w _ _ _ _ _ _ _ _ _ _ c.answer-ended.ensures.answers c.conclude.ensures.status c.answer-ended.ensures.input c.conclude.ensures.says asks failed
+returns-clause-told g c w asks failed = why _ _ w _ _ _ _ _ _ _ _ _ _ c.answer-ended.ensures.answers
+    c.conclude.ensures.status c.answer-ended.ensures.input c.conclude.ensures.says asks failed
 
 pub returns-clause-status : goal.returns-clause-status
 returns-clause-status g c = one_of_seven _ _ c.conclude.ensures.status

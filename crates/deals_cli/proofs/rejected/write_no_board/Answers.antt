@@ -9,7 +9,8 @@ returns-then-is_err-clause-ends g c form none =
     let plan = c.args.plan.now in
     let some : 0 < plan.workers = omega (arith, c.workers-workers.ensures.value, c.workers-workers.ensures.range.0) in
     let part = at_err _ _ c.put_all.result c.if-is_err.ensures.value c.put_all.ensures.bytes in
-    let broken = header_broken (g.N.Notation.layout c.args.notation.now) plan form c.header.result.now (g.O.Sink.bytes c.args.out.now) (g.O.Sink.bytes c.put_all.new.sink) some c.header.ensures part in
+    let broken = header_broken (g.N.Notation.layout c.args.notation.now) plan form c.header.result.now
+    (g.O.Sink.bytes c.args.out.now) (g.O.Sink.bytes c.put_all.new.sink) some c.header.ensures part in
     record { lanes = broken.lanes; boards = 0; stands = broken.stands }
 
 pub returns-in-Ok-clause-ends : goal.returns-in-Ok-clause-ends
@@ -25,7 +26,8 @@ returns-in-Ok-clause-ends g c form none =
     at_ok _ _ c.put_all.result c.if-is_err.ensures.value c.put_all.ensures.bytes ∙ ap (append_known old) c.header.ensures in
     let foot : AppendsAll mid new (layout.footer [] plan.count) =
     subst (λ n. AppendsAll mid new (layout.footer [] n)) c.count.ensures.value (c.in-Ok.ensures.bytes [] c.requires.printed) in
-    let ends = closes layout (g.N.Notation.has_printed c.args.notation.now) plan form old mid none some limit head c.requires.printed new c.fixed-fixed.ensures.fixed foot in
+    let ends = closes layout (g.N.Notation.has_printed c.args.notation.now) plan form old mid none some limit head
+    c.requires.printed new c.fixed-fixed.ensures.fixed foot in
     record {
       text = ends.text_is;
       candidates_are = c.count-in-Ok.ensures.value ∙ ends.candidates_are;

@@ -11,7 +11,8 @@ parts_from n = flat_map (λ part. part.now) (drop n LANGUAGE)
 
 pub returns-in_err-put_all-clause-bytes : goal.returns-in_err-put_all-clause-bytes
 returns-in_err-put_all-clause-bytes g c =
-    let broken = first_broken (g.O.Sink.bytes c.args.out.now) (g.O.Sink.bytes c.put_all.new.sink) _ _ (parts_from 1) c.as_bytes.ensures.value c.in_err-put_all.ensures.bytes in
+    let broken = first_broken (g.O.Sink.bytes c.args.out.now) (g.O.Sink.bytes c.put_all.new.sink) _ _ (parts_from 1)
+    c.as_bytes.ensures.value c.in_err-put_all.ensures.bytes in
     MatchResult-from_err c.from_residual.result _ _ c.from_residual.ensures.0 (λ _. broken)
 
 pub returns-in_err-put_all-2-clause-bytes : goal.returns-in_err-put_all-2-clause-bytes
@@ -24,7 +25,11 @@ returns-in_err-put_all-2-clause-bytes g c =
 pub returns-clause-bytes : goal.returns-clause-bytes
 returns-clause-bytes g c =
     MatchResult-weaker c.put_all-3.result c.put_all-3.ensures.bytes
-    (λ _ at. three_parts (g.O.Sink.bytes c.args.out.now) (g.O.Sink.bytes c.put_all.new.sink) (g.O.Sink.bytes c.put_all-2.new.sink) (g.O.Sink.bytes c.put_all-3.new.sink)
-    _ _ _ _ _ _ c.as_bytes.ensures.value c.as_bytes-2.ensures.value c.as_bytes-3.ensures.value c.in_ok-put_all.ensures.bytes c.in_ok-put_all-2.ensures.bytes at)
-    (λ _ part. third_broken (g.O.Sink.bytes c.args.out.now) (g.O.Sink.bytes c.put_all.new.sink) (g.O.Sink.bytes c.put_all-2.new.sink) (g.O.Sink.bytes c.put_all-3.new.sink)
-    _ _ _ _ _ _ c.as_bytes.ensures.value c.as_bytes-2.ensures.value c.as_bytes-3.ensures.value c.in_ok-put_all.ensures.bytes c.in_ok-put_all-2.ensures.bytes part)
+    (λ _ at. three_parts (g.O.Sink.bytes c.args.out.now) (g.O.Sink.bytes c.put_all.new.sink)
+    (g.O.Sink.bytes c.put_all-2.new.sink) (g.O.Sink.bytes c.put_all-3.new.sink)
+    _ _ _ _ _ _ c.as_bytes.ensures.value c.as_bytes-2.ensures.value c.as_bytes-3.ensures.value
+    c.in_ok-put_all.ensures.bytes c.in_ok-put_all-2.ensures.bytes at)
+    (λ _ part. third_broken (g.O.Sink.bytes c.args.out.now) (g.O.Sink.bytes c.put_all.new.sink)
+    (g.O.Sink.bytes c.put_all-2.new.sink) (g.O.Sink.bytes c.put_all-3.new.sink)
+    _ _ _ _ _ _ c.as_bytes.ensures.value c.as_bytes-2.ensures.value c.as_bytes-3.ensures.value
+    c.in_ok-put_all.ensures.bytes c.in_ok-put_all-2.ensures.bytes part)

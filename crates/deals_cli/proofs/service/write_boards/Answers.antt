@@ -1,5 +1,5 @@
 use Rattle.std.proofs.Common.{◌∙◌, refl}
-use Rattle.captions.specs.Captions.{captions_in}
+use Rattle.boards.specs.Captions.{captions_in}
 use Rattle.notations.specs.Formats.{layout_showing}
 use Rattle.deals_cli.proofs.OtherWorkers.{worked_end, worked_writes}
 use Rattle.deals_cli.proofs.service.write_boards.Goals as goal
@@ -9,7 +9,8 @@ returns-clause-ends g c =
     let job = c.args.job in
     let w = c.worked-run.ensures in
     let e = c.in_ok-written.ensures.ends in
-    let text = worked_writes (layout_showing job.format job.show (captions_in job.format job.heading)) job.plan c.worked-run.result job.condition w.0 c.in_ok-written.written.boards
+    let text = worked_writes (layout_showing job.format job.show (captions_in job.format job.heading)) job.plan
+    c.worked-run.result job.condition w.0 c.in_ok-written.written.boards
     (g.O.Sink.bytes c.args.out.now) (g.O.Sink.bytes c.write_plan.new.out) w.2 (rw c.in-Ok.ensures.layout at e.text) in (
       text.bytes,
       record {

@@ -17,6 +17,15 @@ returns-clause-ends g c =
     let old = g.O.Sink.bytes c.args.out.now in
     let new = g.O.Sink.bytes c.write_plan.new.out in
     let counts = ap (λ (p : Planned). p.count) w.2 in
-    let text = worked_writes (counting job.style (subject_of job.subject)) job.plan c.worked-run.result job.condition w.0 boards old new w.2 (rw c.in-Ok.ensures.layout at e.text) in
+    let text = worked_writes (counting job.style (subject_of job.subject)) job.plan c.worked-run.result job.condition
+    w.0 boards old new w.2 (rw c.in-Ok.ensures.layout at e.text) in
     table_written job.style (subject_of job.subject) job.plan job.condition boards old new job.plain
-    (omega (arith, length-boards_of job.plan (accepted job.plan job.condition), text.boards_are, e.few.0, e.few.1, counts, c.count-count.ensures.range)) text
+    (omega (
+      arith,
+      length-boards_of job.plan (accepted job.plan job.condition),
+      text.boards_are,
+      e.few.0,
+      e.few.1,
+      counts,
+      c.count-count.ensures.range,
+    )) text

@@ -1,5 +1,5 @@
 use Rattle.std.proofs.Common.{◌≡◌, Err, rules}
-use Rattle.records.specs.declared.reader.ReadFault.TheVariants.{Input}
+use Rattle.input.specs.declared.records.reader.ReadFault.TheVariants.{Input}
 use Rattle.deals_cli.specs.Shown.{GoesOn}
 use Rattle.deals_cli.proofs.Showing.{ends_shown, goes_on}
 use Rattle.deals_cli.proofs.show_job.show_read.Goals as goal
@@ -9,10 +9,12 @@ returns-clause-shows g c =
     let first = c.next-first.result in
     let rest = g.I.Source.rest c.args.input.now in
     let layout = c.in_ok-printer.ensures.layout in
-    let shows = rw (layout, c.labelled-heading.ensures, c.expects-expects.ensures) at (c.show.ensures.shows c.new-reader.result rest c.new-reader.ensures.begin c.next-first.ensures.reads) in
+    let shows = rw (layout, c.labelled-heading.ensures, c.expects-expects.ensures) at
+    (c.show.ensures.shows c.new-reader.result rest c.new-reader.ensures.begin c.next-first.ensures.reads) in
     let not_failed : first ≡ Err Input → ⊥ = λ bad. first_of (cc, search rules) in
     let goes : GoesOn first c.show.result = goes_on first c.show.result _ _ c.show.ensures.input not_failed in
-    ends_shown c.args.job.now c.show.result rest (g.I.Source.rest c.show.new.input) (g.O.Sink.bytes c.args.out.now) (g.O.Sink.bytes c.show.new.sink) (record {
+    ends_shown c.args.job.now c.show.result rest (g.I.Source.rest c.show.new.input) (g.O.Sink.bytes c.args.out.now)
+    (g.O.Sink.bytes c.show.new.sink) (record {
       start = c.new-reader.result;
       next = c.next-first.new.self;
       first = first;

@@ -1,5 +1,5 @@
 use Rattle.std.proofs.lemmas.Result.{err_from_is_err_and}
-use Rattle.request_types.specs.Requests.{look_of, plain_search}
+use Rattle.requests.specs.Requests.{look_of, plain_search}
 use Rattle.jobs.proofs.FirstDue.{show_refused}
 use Rattle.jobs.proofs.job.prepare.Goals as goal
 

@@ -1,7 +1,7 @@
 -- The texts in the places so far ask their questions.
 use Rattle.std.proofs.Common.{◌≡◌, List, option_map}
 use Rattle.statistics.specs.Counting.{Asked}
-use Rattle.request_types.specs.Requests.{places_of}
+use Rattle.requests.specs.Requests.{places_of}
 use Rattle.jobs.specs.Counting.{AskEach}
 use Rattle.jobs.proofs.EachAsked.{texts_before}
 use Rattle.jobs.proofs.questions.read_each.Given as goal

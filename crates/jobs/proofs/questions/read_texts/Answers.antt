@@ -24,7 +24,8 @@ returns-in_ok-asked_of-in-One-clause-only c t asks =
 
 pub returns-in_ok-by-in-Two-clause-only : goal.returns-in_ok-by-in-Two-clause-only
 returns-in_ok-by-in-Two-clause-only c t asks =
-    let here = rw c.in-Two.is at asks in here.4 ∙ ap₂ by_two (c.in_ok-of-in-Two.ensures.only here.0 here.2) (c.in_ok-by-in-Two.ensures.only here.1 here.3)
+    let here = rw c.in-Two.is at asks in here.4 ∙ ap₂ by_two (c.in_ok-of-in-Two.ensures.only here.0 here.2)
+    (c.in_ok-by-in-Two.ensures.only here.1 here.3)
 
 pub returns-in_err-read_each-in-Each-clause-memory : goal.returns-in_err-read_each-in-Each-clause-memory
 returns-in_err-read_each-in-Each-clause-memory c =

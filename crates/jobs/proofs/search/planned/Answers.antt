@@ -1,5 +1,5 @@
 use Rattle.std.proofs.lemmas.Result.{err_from_is_err_and}
-use Rattle.request_types.specs.Requests.{look_of, search_of}
+use Rattle.requests.specs.Requests.{look_of, search_of}
 use Rattle.jobs.proofs.FirstDue.{labels_due}
 use Rattle.jobs.proofs.search.planned.Goals as goal
 

@@ -1,6 +1,6 @@
 use Rattle.std.proofs.Common.{refl}
 use Rattle.std.proofs.lemmas.Result.{IfErr-weaker, err_from_is_err_and}
-use Rattle.request_types.specs.Requests.{search_of}
+use Rattle.requests.specs.Requests.{search_of}
 use Rattle.jobs.specs.internal.Conditions.{IsEitherFailure, IsTextFailure}
 use Rattle.jobs.proofs.Joined.{condition_failure, condition_memory, failure_alone, lesson_memory}
 use Rattle.jobs.proofs.search.read_both.Goals as goal

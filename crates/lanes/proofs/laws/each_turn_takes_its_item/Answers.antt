@@ -10,4 +10,6 @@ returns c count workers capacity events some =
     let new = new_machine count workers capacity in
     let m = after_all new events in
     let kept = kept_all events new (kept_new count workers capacity some) in
-    subst (λ (k : ℕ). (taken_of m (m.turn % k) ≡ m.turn / k) × (item_of k (m.turn % k) (taken_of m (m.turn % k)) ≡ m.turn)) (same_run events new).workers (in_turn m kept, item_in_turn m kept)
+    subst (λ (k : ℕ). (taken_of m (m.turn % k) ≡ m.turn / k)
+    × (item_of k (m.turn % k) (taken_of m (m.turn % k)) ≡ m.turn)) (same_run events new).workers
+    (in_turn m kept, item_in_turn m kept)

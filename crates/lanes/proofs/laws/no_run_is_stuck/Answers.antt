@@ -10,5 +10,6 @@ pub returns : goal.returns
 returns c count workers capacity events some room short running =
     let m = after_all (new_machine count workers capacity) events in
     let same = same_run events (new_machine count workers capacity) in
-    let goes = (sound_all events (new_machine count workers capacity) (kept_new count workers capacity some) room).not_stuck (omega (arith, same.count)) running in
+    let goes = (sound_all events (new_machine count workers capacity) (kept_new count workers capacity some)
+    room).not_stuck (omega (arith, same.count)) running in
     subst (λ (k : ℕ). (is_allowed m Take ≡ true) ⊎ (is_allowed m (Send (m.turn % k)) ≡ true)) same.workers goes

@@ -12,7 +12,8 @@ use Rattle.lanes.proofs.worker.judge.Goals as goal
 pub judge_next-requires-clause-number : goal.judge_next-requires-clause-number
 judge_next-requires-clause-number c =
     let s = c.args.job.now.share in
-    let below = number_below s.workers s.worker s.count s.first (c.args.place + c.loop-i.i) s.one_of s.within (omega (arith, c.loop-i-test.true, c.loop-i.auto, c.requires.within)) in
+    let below = number_below s.workers s.worker s.count s.first (c.args.place + c.loop-i.i) s.one_of s.within
+    (omega (arith, c.loop-i-test.true, c.loop-i.auto, c.requires.within)) in
     omega (arith, below, c.at-number.ensures)
 
 pub judge_next-requires-clause-at : goal.judge_next-requires-clause-at
@@ -30,7 +31,8 @@ loop-i-preserved c =
     let all = verdicts_around j in
     let v = c.judge_next.result in
     let kept = c.loop-i.invariant in
-    let more = one_more (candidate_around j.fixed j.seed) s.first s.count j.cond s.workers s.worker (p + i) s.one_of (omega (arith, c.loop-i-test.true, c.loop-i.auto, c.requires.within)) in
+    let more = one_more (candidate_around j.fixed j.seed) s.first s.count j.cond s.workers s.worker (p + i) s.one_of
+    (omega (arith, c.loop-i-test.true, c.loop-i.auto, c.requires.within)) in
     let after : c.at-number.result + s.workers ≡ s.first + s.worker + (p + (i + 1)) * s.workers = omega (arith, c.at-number.ensures) in
     let next : p + i + 1 ≡ p + (i + 1) = omega arith in
     record {
@@ -41,7 +43,8 @@ loop-i-preserved c =
           ∙ ap (λ xs. take p all ++ xs) (verdicts-more (take i c.loop-i.block) v)
           ∙ sym (append_assoc (take p all) (verdicts_in (take i c.loop-i.block)) (verdict_in v ∷ []))
           ∙ ap (λ xs. xs ++ verdict_in v ∷ []) kept.judged
-          ∙ ap (λ u. take (p + i) all ++ u ∷ []) (c.judge_next.ensures.slot ∙ ap (verdict_of (candidate_around j.fixed j.seed) j.cond) c.at-number.ensures)
+          ∙ ap (λ u. take (p + i) all ++ u ∷ []) (c.judge_next.ensures.slot
+          ∙ ap (verdict_of (candidate_around j.fixed j.seed) j.cond) c.at-number.ensures)
           ∙ sym more
           ∙ ap (λ n. take n all) next;
     }

@@ -18,7 +18,15 @@ returns-clause-text c =
     let left : List ℕ = codes "Board " ++ decimal number in
     let written = c.put_number.ensures.text ∙ ap (λ xs. xs ++ decimal number) c.put.ensures.text in
     let used : c.len.result - c.len-start.result ≡ columns left =
-    omega (arith, c.len.ensures, c.len-start.ensures, c.put.ensures.len, ap length c.put_number.ensures.text, length-append c.put.new.self (decimal number), columns-number number (omega arith)) in
+    omega (
+      arith,
+      c.len.ensures,
+      c.len-start.ensures,
+      c.put.ensures.len,
+      ap length c.put_number.ensures.text,
+      length-append c.put.new.self (decimal number),
+      columns-number number (omega arith),
+    ) in
     c.put_rest.ensures.text
     ∙ ap (λ n. c.put_number.new.self ++ rest_of_line 18 n north Spades) used
     ∙ ap (λ xs. xs ++ rest_of_line 18 (columns left) north Spades) written

@@ -6,7 +6,8 @@ use Rattle.notations.specs.Tricks.{five_of}
 use Rattle.notations.proofs.pbn.put_table.Goals as goal
 
 whole_table : (old digits : List ℕ) → 0 < length digits
-    → ((((old ++ table_tag) ++ rows_of North (five_of North digits)) ++ rows_of South (five_of South digits)) ++ rows_of East (five_of East digits)) ++ rows_of West (five_of West digits)
+    → ((((old ++ table_tag) ++ rows_of North (five_of North digits)) ++ rows_of South (five_of South digits))
+    ++ rows_of East (five_of East digits)) ++ rows_of West (five_of West digits)
     ≡ old ++ table_text digits
 unfolding table_text
 whole_table old [] some = absurd (omega arith)

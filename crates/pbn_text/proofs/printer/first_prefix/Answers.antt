@@ -13,4 +13,5 @@ put_prefix-requires-clause-min c =
 
 pub put_prefix-requires-clause-digits : goal.put_prefix-requires-clause-digits
 put_prefix-requires-clause-digits c =
-    digits_written c.write_digits-number_start.new.buf (decimal 0) (drop 272 c.args.buffer.now) c.write_digits-number_start.result 272 (omega arith) c.write_digits-number_start.ensures.written
+    digits_written c.write_digits-number_start.new.buf (decimal 0) (drop 272 c.args.buffer.now)
+    c.write_digits-number_start.result 272 (omega arith) c.write_digits-number_start.ensures.written

@@ -28,9 +28,11 @@ returns-then-number_start-last-clause-prefix c =
     record {
       order = c.requires.order;
       inside = c.requires.inside;
-      lines = ap (drop c.args.last.start) (ap (λ n. take n written) (sym same) ∙ c.write_digits-number_start.ensures.before ∙ ap (λ n. take n c.args.buffer.now) same) ∙ c.requires.lines;
+      lines = ap (drop c.args.last.start) (ap (λ n. take n written) (sym same)
+          ∙ c.write_digits-number_start.ensures.before ∙ ap (λ n. take n c.args.buffer.now) same) ∙ c.requires.lines;
       digits = ap (λ n. drop n (take 272 written)) (sym same)
-          ∙ digits_written written (decimal c.args.number) (drop 272 c.args.buffer.now) c.write_digits-number_start.result 272 (omega arith) c.write_digits-number_start.ensures.written;
+          ∙ digits_written written (decimal c.args.number) (drop 272 c.args.buffer.now)
+          c.write_digits-number_start.result 272 (omega arith) c.write_digits-number_start.ensures.written;
     }
 
 pub put_prefix-requires-clause-min : goal.put_prefix-requires-clause-min
@@ -40,4 +42,5 @@ put_prefix-requires-clause-min c =
 
 pub put_prefix-requires-clause-digits : goal.put_prefix-requires-clause-digits
 put_prefix-requires-clause-digits c =
-    digits_written c.write_digits-number_start.new.buf (decimal c.args.number) (drop 272 c.args.buffer.now) c.write_digits-number_start.result 272 (omega arith) c.write_digits-number_start.ensures.written
+    digits_written c.write_digits-number_start.new.buf (decimal c.args.number) (drop 272 c.args.buffer.now)
+    c.write_digits-number_start.result 272 (omega arith) c.write_digits-number_start.ensures.written

@@ -14,5 +14,6 @@ returns-clause-prefix c =
       order = omega arith;
       inside = c.requires.max;
       lines = between_copied c.args.buffer.now c.copy_from_slice.new.self _ _ c.args.number_start (omega arith) (omega arith) ∙ piece;
-      digits = digits_kept c.args.buffer.now c.copy_from_slice.new.self _ _ _ c.args.number_start 272 (omega arith) (omega arith) (omega arith) (omega arith) c.requires.digits;
+      digits = digits_kept c.args.buffer.now c.copy_from_slice.new.self _ _ _ c.args.number_start 272 (omega arith)
+          (omega arith) (omega arith) (omega arith) c.requires.digits;
     }

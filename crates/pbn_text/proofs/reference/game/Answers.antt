@@ -11,4 +11,5 @@ returns-clause-value c =
 pub returns-clause-one_deal : goal.returns-clause-one_deal
 returns-clause-one_deal c other count same =
     let board = c.by_law.ensures in
-    deal_from_game c.args.board c.args.heading.now other c.args.deal.now count (rw board at c.print_game.ensures.partition.count) (same ∙ returns-clause-value c)
+    deal_from_game c.args.board c.args.heading.now other c.args.deal.now count
+    (rw board at c.print_game.ensures.partition.count) (same ∙ returns-clause-value c)

@@ -10,7 +10,9 @@ joined a b c d e f g h p q r s = s ∙ rw (r, q, p) (sym (append_assoc (e ++ f) 
 pub returns-clause-value : goal.returns-clause-value
 unfolding game_text
 returns-clause-value c =
-    joined c.new-text.result.items c.put_heading.new.text.items c.put_board.new.text.items c.put_deal.new.text.items (heading_text c.args.heading.now) (board_text c.args.board.now) (tag (codes "Deal") (deal_text c.args.board.now.deal)) (codes "\n")
+    joined c.new-text.result.items c.put_heading.new.text.items c.put_board.new.text.items c.put_deal.new.text.items
+    (heading_text c.args.heading.now) (board_text c.args.board.now)
+    (tag (codes "Deal") (deal_text c.args.board.now.deal)) (codes "\n")
     c.new-text.ensures c.put_heading.ensures.items c.put_board.ensures.items c.put_deal.ensures.items
 
 pub returns-clause-plain : goal.returns-clause-plain

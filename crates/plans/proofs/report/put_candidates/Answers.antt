@@ -16,5 +16,6 @@ returns-clause-text g c =
     let two = as_text b1 b2 _ (first ++ codes " to ") c.with-3.ensures c.in_ok-print-2.ensures.text in
     let both = part base b1 b2 n (first ++ codes " to ") (n ++ first ++ codes " to ") (sym (append_assoc n first (codes " to "))) one two in
     last_part c.print-4.result base b2 b3 (n ++ first ++ codes " to ") (last ++ codes ",") (candidates_text c.args.first c.args.candidates)
-    (sym (append_assoc (n ++ first ++ codes " to ") last (codes ",")) ∙ several c.args.first c.args.candidates c.if-candidates-eq0.false c.if-candidates-eq1.false) both
+    (sym (append_assoc (n ++ first ++ codes " to ") last (codes ","))
+    ∙ several c.args.first c.args.candidates c.if-candidates-eq0.false c.if-candidates-eq1.false) both
     (ok_as_text c.print-4.result b2 b3 _ (last ++ codes ",") c.with-4.ensures c.print-4.ensures.text)

@@ -11,6 +11,7 @@ returns-clause-text g c =
     let x = codes "next: --first " ++ decimal c.args.first ++ codes " --first-board " in
     let y = decimal c.args.board ++ codes "\n" in
     last_part c.print-2.result base mid new x y (goes_on_at c.args.first c.args.board)
-    (sym (append_assoc x (decimal c.args.board) (codes "\n")) ∙ goes_on c.args.first c.args.board c.if-first-eq-MAX_CANDIDATES.false c.if-board-gt-MAX_CANDIDATES.false)
+    (sym (append_assoc x (decimal c.args.board) (codes "\n"))
+    ∙ goes_on c.args.first c.args.board c.if-first-eq-MAX_CANDIDATES.false c.if-board-gt-MAX_CANDIDATES.false)
     (as_text base mid _ x c.with.ensures c.in_ok-print.ensures.text)
     (ok_as_text c.print-2.result mid new _ y c.with-2.ensures c.print-2.ensures.text)

@@ -11,4 +11,5 @@ returns-then-all c =
 
 pub returns-in-Some : goal.returns-in-Some
 returns-in-Some c hand =
-    rw c.in-Some.ensures.kept (all_weigh c.args.left.now c.args.right.now c.differences-weights.result c.differences-weights.ensures (omega arith) (c.in-Some.ensures.light.0 refl) hand)
+    rw c.in-Some.ensures.kept (all_weigh c.args.left.now c.args.right.now c.differences-weights.result
+    c.differences-weights.ensures (omega arith) (c.in-Some.ensures.light.0 refl) hand)

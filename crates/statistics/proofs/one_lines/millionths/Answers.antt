@@ -8,4 +8,8 @@ returns-clause-value c = divided_in_parts 1000000 c.args.spread c.args.divisor c
 
 pub returns-clause-most : goal.returns-clause-most
 returns-clause-most c =
-    omega (arith, divided_in_parts 1000000 c.args.spread c.args.divisor c.requires.divisor, millionths_fit c.args.spread c.args.divisor c.requires.whole)
+    omega (
+      arith,
+      divided_in_parts 1000000 c.args.spread c.args.divisor c.requires.divisor,
+      millionths_fit c.args.spread c.args.divisor c.requires.whole,
+    )

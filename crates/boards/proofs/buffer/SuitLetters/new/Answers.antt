@@ -16,7 +16,9 @@ pub loop-set-preserved : goal.loop-set-preserved
 loop-set-preserved c =
     let long : vec_len c.loop-set.entries ≡ length c.loop-set.entries.items = search rules in
     record {
-      done = one_more c.loop-set.entries.items c.push_reserved.new.self.items c.entry_of.result c.loop-set.set c.push_reserved.ensures.items (omega (arith, long, c.loop-set.invariant.count)) c.entry_of.ensures c.loop-set.invariant.done;
+      done = one_more c.loop-set.entries.items c.push_reserved.new.self.items c.entry_of.result c.loop-set.set
+          c.push_reserved.ensures.items (omega (arith, long, c.loop-set.invariant.count)) c.entry_of.ensures
+          c.loop-set.invariant.done;
       count = omega (arith, c.push_reserved.ensures.len, c.loop-set.invariant.count);
       room = omega (arith, c.push_reserved.ensures.capacity, c.loop-set.invariant.room);
     }

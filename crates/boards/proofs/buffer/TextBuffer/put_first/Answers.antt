@@ -5,7 +5,8 @@ use borrow.Rule.Slice.PartMut.{put_mid, post_of}
 use Rattle.boards.proofs.buffer.TextBuffer.put_first.Goals as goal
 
 -- a copy from a on, and m bytes of it
-take_copied : (bytes piece : List ℕ) (a k m : ℕ) → a ≤ length bytes → m ≤ length piece → take (a + m) (put_mid a k bytes piece) ≡ take a bytes ++ take m piece
+take_copied : (bytes piece : List ℕ) (a k m : ℕ) → a ≤ length bytes → m ≤ length piece
+    → take (a + m) (put_mid a k bytes piece) ≡ take a bytes ++ take m piece
 take_copied bytes piece a k m within enough =
     ap (λ n. take (n + m) (put_mid a k bytes piece)) (sym (length-take-le a bytes within))
     ∙ take-append-add (take a bytes) (piece ++ post_of a k bytes) m

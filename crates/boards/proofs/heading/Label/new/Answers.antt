@@ -32,9 +32,11 @@ padded bytes text e ok =
 
 pub invariant_of-result : goal.invariant_of-result
 invariant_of-result c =
-    padded c.loop-i.bytes c.args.text.now (copied_all c.loop-i.bytes c.args.text.now 100 c.loop-i.i c.loop-i.invariant.count (omega arith) (omega arith) c.loop-i.invariant.copied)
+    padded c.loop-i.bytes c.args.text.now (copied_all c.loop-i.bytes c.args.text.now 100 c.loop-i.i
+    c.loop-i.invariant.count (omega arith) (omega arith) c.loop-i.invariant.copied)
     record { short = omega arith; printable = All-from_get_or IsLabelByte c.args.text.now 0 (λ i h. c.loop-i.invariant.printable i (omega arith)) }
 
 pub returns-clause-kept : goal.returns-clause-kept
 returns-clause-kept c =
-    rw (copied_all c.loop-i.bytes c.args.text.now 100 c.loop-i.i c.loop-i.invariant.count (omega arith) (omega arith) c.loop-i.invariant.copied) (front c.args.text.now (replicate (100 - length c.args.text.now) 0))
+    rw (copied_all c.loop-i.bytes c.args.text.now 100 c.loop-i.i c.loop-i.invariant.count (omega arith) (omega arith)
+    c.loop-i.invariant.copied) (front c.args.text.now (replicate (100 - length c.args.text.now) 0))

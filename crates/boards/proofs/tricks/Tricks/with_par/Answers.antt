@@ -6,7 +6,9 @@ use Rattle.boards.proofs.tricks.Tricks.with_par.Goals as goal
 
 pub invariant_of-result : goal.invariant_of-result
 invariant_of-result c =
-    rw (c.small.ensures, c.score_of.ensures, c.kept.ensures) (par_told c.args.tricks.now c.args.side.now c.args.points.now c.args.contract.now c.requires.par c.requires.contract)
+    rw (c.small.ensures, c.score_of.ensures, c.kept.ensures)
+    (par_told c.args.tricks.now c.args.side.now c.args.points.now c.args.contract.now c.requires.par
+    c.requires.contract)
 
 pub small-requires : goal.small-requires
 small-requires c = (and_parts (are_tricks c.args.tricks.now) (is_side c.args.side.now && are_points c.args.points.now) c.requires.par).0

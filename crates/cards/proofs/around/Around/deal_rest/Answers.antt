@@ -1,5 +1,5 @@
 use Rattle.std.proofs.Common.{◌∙◌}
-use Rattle.cards.proofs.AroundDeals.{dealt_without_east, dealt_without_north, kept_of}
+use Rattle.cards.proofs.AroundHands.{dealt_without_east, dealt_without_north, kept_of}
 use Rattle.cards.proofs.around.Around.deal_rest.Goals as goal
 
 pub with_rest_to_east-requires : goal.with_rest_to_east-requires

@@ -13,5 +13,8 @@ returns-clause-deal c fixed seed k step at =
 
 pub returns-clause-moved : goal.returns-clause-moved
 returns-clause-moved c fixed seed k step at =
-    past_draws fixed seed k step c.args.self.now c.self.inside.start c.draw-deal.new.generator c.apply-self-inside.result (draws_around c.self.inside.around) c.self.inside.gap c.self.inside.stride 0 c.self.inside.around at
-    (ap (λ v. v.state) c.self.view_is) (ap (λ v. v.stride) c.self.view_is) (ap (λ v. v.fixed) c.self.view_is) c.self.invariant.1 c.draw-deal.ensures.stepped c.apply-self-inside.ensures
+    past_draws fixed seed k step c.args.self.now c.self.inside.start c.draw-deal.new.generator
+    c.apply-self-inside.result (draws_around c.self.inside.around) c.self.inside.gap c.self.inside.stride 0
+    c.self.inside.around at
+    (ap (λ v. v.state) c.self.view_is) (ap (λ v. v.stride) c.self.view_is) (ap (λ v. v.fixed) c.self.view_is)
+    c.self.invariant.1 c.draw-deal.ensures.stepped c.apply-self-inside.ensures

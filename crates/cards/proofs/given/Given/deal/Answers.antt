@@ -8,8 +8,11 @@ pub returns-then-self-ne-ALL-clause-every : goal.returns-then-self-ne-ALL-clause
 returns-then-self-ne-ALL-clause-every c d ok all =
     let same = c.self.view_is ∙ all in
     elim c.then-self-ne-ALL.branch [
-      | then-self-ne-ALL-via-then-self-ne-ALL w ↦ absurd (w.if-self-ne-ALL.true (told_all c.self.inside.masks c.self.inside.held c.self.invariant d ok.count same))
-      | then-self-ne-ALL-via-else-self-ne-ALL+then-not-are_thirteen w ↦ absurd (let test = told_thirteen c.self.inside.masks c.self.inside.held c.self.invariant d ok.count same ok in search rules)
+      | then-self-ne-ALL-via-then-self-ne-ALL w ↦ absurd (w.if-self-ne-ALL.true
+          (told_all c.self.inside.masks c.self.inside.held c.self.invariant d ok.count same))
+      | then-self-ne-ALL-via-else-self-ne-ALL+then-not-are_thirteen w ↦ absurd
+          (let test = told_thirteen c.self.inside.masks c.self.inside.held c.self.invariant d ok.count same ok in
+          search rules)
     ]
 
 pub of_three_masks-requires : goal.of_three_masks-requires

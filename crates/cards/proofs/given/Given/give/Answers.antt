@@ -8,7 +8,8 @@ use Rattle.cards.proofs.given.Given.give.Goals as goal
 pub returns-then-self-card-eq1-clause-held : goal.returns-then-self-card-eq1-clause-held
 returns-then-self-card-eq1-clause-held c e =
     let one = sym (shr_and_one c.self.inside.held c.args.card) ∙ c.if-self-card-eq1.true in
-    subst (λ l. IsSome (get_or l c.args.card None)) c.self.view_is (was_held c.self.inside.masks c.self.inside.held c.self.invariant c.args.card c.requires one)
+    subst (λ l. IsSome (get_or l c.args.card None)) c.self.view_is
+    (was_held c.self.inside.masks c.self.inside.held c.self.invariant c.args.card c.requires one)
 
 free_at : (m k : ℕ) → (bit_and (m / 2 ^ k) 1 ≡ 1 → ⊥) → bit_at m k ≡ 0
 free_at m k other = let not_one : bit_at m k ≢ 1 = λ e. other (shr_and_one m k ∙ e) in omega (arith, bit_at-lt m k, not_one)
@@ -21,7 +22,8 @@ invariant_of-self c =
 pub returns-clause-free : goal.returns-clause-free
 returns-clause-free c e =
     let free = free_at c.self.inside.held c.args.card c.if-self-card-eq1.false in
-    ap (λ l. get_or l c.args.card None) (sym c.self.view_is) ∙ was_free c.self.inside.masks c.self.inside.held c.self.invariant c.args.card c.requires c.args.seat free
+    ap (λ l. get_or l c.args.card None) (sym c.self.view_is)
+    ∙ was_free c.self.inside.masks c.self.inside.held c.self.invariant c.args.card c.requires c.args.seat free
 
 pub returns-clause-given : goal.returns-clause-given
 returns-clause-given c e =

@@ -121,7 +121,8 @@ quantified-returns-clause-gives t c =
 pub with_choice-returns-clause-gives : goal.with_choice-returns-clause-gives
 with_choice-returns-clause-gives t c = λ before held.
     let tree = c.in_ok-tree.ensures.gives in
-    let read : with_choice_by (reading (meanings c.args.names.now)) c.args.bound c.args.each.quantifier c.args.each.class (kinds c.args.start.now) c.args.choice before c.args.self.now
+    let read : with_choice_by (reading (meanings c.args.names.now)) c.args.bound c.args.each.quantifier
+    c.args.each.class (kinds c.args.start.now) c.args.choice before c.args.self.now
     ≡ got (Some (behind c.args.each.quantifier before tree.0)) c.cond.new.self = search rules in
     (Some (behind c.args.each.quantifier before tree.0), c.in_ok-behind.ensures.ok before tree.0 held (rw (← c.room_behind.ensures) tree.1), read)
 
@@ -150,13 +151,15 @@ pub tree_named-returns-clause-ok : goal.tree_named-returns-clause-ok
 tree_named-returns-clause-ok t c = λ p f e i.
     let is = found c.args.names.now c.args.number c.in-Some.named.now c.in-Some.ensures.lookup.3.0 c.in-Some.ensures.lookup.1 in
     let h = tree_at c.args.names.now c.args.number c.in-Some.named.now p f c.args.choice c.requires is e i in
-    kept_of (IsGrown c.args.room) c.cond.result c.cond.new.self h.left _ (f c.args.choice) (rw (c.new-parser.ensures, c.given.ensures) h.read) c.cond.ensures.gives
+    kept_of (IsGrown c.args.room) c.cond.result c.cond.new.self h.left _ (f c.args.choice)
+    (rw (c.new-parser.ensures, c.given.ensures) h.read) c.cond.ensures.gives
 
 pub tree_named-returns-clause-err : goal.tree_named-returns-clause-err
 tree_named-returns-clause-err t c = λ p f e i.
     let is = found c.args.names.now c.args.number c.in-Some.named.now c.in-Some.ensures.lookup.3.0 c.in-Some.ensures.lookup.1 in
     let h = tree_at c.args.names.now c.args.number c.in-Some.named.now p f c.args.choice c.requires is e i in
-    no_fault (IsGrown c.args.room) c.cond.result c.cond.new.self h.left _ (f c.args.choice) (rw (c.new-parser.ensures, c.given.ensures) h.read) c.cond.ensures.gives
+    no_fault (IsGrown c.args.room) c.cond.result c.cond.new.self h.left _ (f c.args.choice)
+    (rw (c.new-parser.ensures, c.given.ensures) h.read) c.cond.ensures.gives
 
 pub condition_used-returns-in_default-clause-gives : goal.condition_used-returns-in_default-clause-gives
 condition_used-returns-in_default-clause-gives t c = λ rest sight.
@@ -166,7 +169,8 @@ condition_used-returns-in_default-clause-gives t c = λ rest sight.
 pub condition_used-returns-then-named-clause-gives : goal.condition_used-returns-then-named-clause-gives
 condition_used-returns-then-named-clause-gives t c = λ rest sight.
     let is = found c.args.names.now c.args.number c.in-Some.named.now c.in-Some.ensures.lookup.3.0 c.in-Some.ensures.lookup.1 in
-    rw (value_meaning c.args.names.now c.args.number c.in-Some.named.now c.requires.sound is c.if-named.true, ← sight) c.comparison-then-named.ensures.gives
+    rw (value_meaning c.args.names.now c.args.number c.in-Some.named.now c.requires.sound is c.if-named.true, ← sight)
+    c.comparison-then-named.ensures.gives
 
 pub condition_used-returns-in_err-choice-clause-gives : goal.condition_used-returns-in_err-choice-clause-gives
 condition_used-returns-in_err-choice-clause-gives t c = λ rest sight.

@@ -34,13 +34,15 @@ pub amount_named-returns-clause-ok : goal.amount_named-returns-clause-ok
 amount_named-returns-clause-ok t c = λ p f e i.
     let is = found c.args.names.now c.args.number c.in-Some.named.now c.in-Some.ensures.lookup.3.0 c.in-Some.ensures.lookup.1 in
     let h = amount_at c.args.names.now c.args.number c.in-Some.named.now p f c.args.choice c.requires is e i in
-    kept_of (IsGrownValue c.args.room) c.value.result c.value.new.self h.left _ (f c.args.choice) (rw (c.new-parser.ensures, c.given.ensures) h.read) c.value.ensures.gives
+    kept_of (IsGrownValue c.args.room) c.value.result c.value.new.self h.left _ (f c.args.choice)
+    (rw (c.new-parser.ensures, c.given.ensures) h.read) c.value.ensures.gives
 
 pub amount_named-returns-clause-err : goal.amount_named-returns-clause-err
 amount_named-returns-clause-err t c = λ p f e i.
     let is = found c.args.names.now c.args.number c.in-Some.named.now c.in-Some.ensures.lookup.3.0 c.in-Some.ensures.lookup.1 in
     let h = amount_at c.args.names.now c.args.number c.in-Some.named.now p f c.args.choice c.requires is e i in
-    no_fault (IsGrownValue c.args.room) c.value.result c.value.new.self h.left _ (f c.args.choice) (rw (c.new-parser.ensures, c.given.ensures) h.read) c.value.ensures.gives
+    no_fault (IsGrownValue c.args.room) c.value.result c.value.new.self h.left _ (f c.args.choice)
+    (rw (c.new-parser.ensures, c.given.ensures) h.read) c.value.ensures.gives
 
 pub value_used-returns-in_default-clause-gives : goal.value_used-returns-in_default-clause-gives
 value_used-returns-in_default-clause-gives t c = λ rest sight.

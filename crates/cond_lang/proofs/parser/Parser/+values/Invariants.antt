@@ -19,7 +19,8 @@ decreases-amount_named l = work_of l.names.now
 
 abbrev pub invariant-value-loop-self : goal.invariant-value-loop-self
 invariant-value-loop-self l =
-    ((a : Amount) × IsGrownValue l.room l.left a × (reading (meanings l.names) l.bound a_value l.fn.self ≡ reading (meanings l.names) l.bound (sums a) l.self))
+    ((a : Amount) × IsGrownValue l.room l.left a × (reading (meanings l.names) l.bound a_value l.fn.self ≡ reading
+    (meanings l.names) l.bound (sums a) l.self))
     × (length l.self ≤ length l.fn.self)
 
 abbrev pub decreases-value-loop-self : goal.decreases-value-loop-self

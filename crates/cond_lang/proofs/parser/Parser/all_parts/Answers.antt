@@ -8,4 +8,5 @@ pub returns-clause-counted : goal.returns-clause-counted
 returns-clause-counted c =
     let last : c.loop-place.place ≡ 16 = omega arith in
     all_counted (meanings c.args.names.now) c.args.params c.args.is_value (kinds c.args.start.now) c.loop-place.parts
-    (subst (λ n. CountedBelow (meanings c.args.names.now) c.args.params c.args.is_value (kinds c.args.start.now) c.loop-place.parts n) last c.loop-place.invariant)
+    (subst (λ n. CountedBelow (meanings c.args.names.now) c.args.params c.args.is_value (kinds c.args.start.now)
+    c.loop-place.parts n) last c.loop-place.invariant)

@@ -29,8 +29,12 @@ returns-in-None-clause-found c = λ t h.
 
 pub returns-in-None-clause-many : goal.returns-in-None-clause-many
 returns-in-None-clause-many c = λ same.
-    let read = c.in-Ok.ensures.gives in
-    (read.0, from_ok (kinds c.args.tokens.now) c.new-parser.result c.whole.new.self read.0 c.new-parser.ensures read.2, rw c.in-None.is at read.1.tree)
+    let read = c.in-Ok.ensures.gives in (
+      read.0,
+      from_ok (kinds c.args.tokens.now) c.new-parser.result c.whole.new.self read.0 c.new-parser.ensures
+          read.2,
+      rw c.in-None.is at read.1.tree,
+    )
 
 pub returns-in-Err-Syntax-clause-found : goal.returns-in-Err-Syntax-clause-found
 returns-in-Err-Syntax-clause-found c = λ t h.
@@ -42,5 +46,9 @@ returns-in-Err-Syntax-clause-place c = λ at i.
     let T : List Token = kinds c.args.tokens.now in
     let R : List Token = c.whole.new.self in
     let g = rw c.in-Err-Syntax.field-0-is at c.in-Err-Syntax.ensures.gives in
-    let e : whole T ≡ stuck R = from_stuck T c.new-parser.result R c.new-parser.ensures g in
-    (length T - length R, first_fault T R e, at_place c.args.tokens.now R c.args.end c.left.result c.offset_of.result at c.left.ensures c.offset_of.ensures (same_at _ _ i))
+    let e : whole T ≡ stuck R = from_stuck T c.new-parser.result R c.new-parser.ensures g in (
+      length T - length R,
+      first_fault T R e,
+      at_place c.args.tokens.now R c.args.end c.left.result c.offset_of.result
+          at c.left.ensures c.offset_of.ensures (same_at _ _ i),
+    )

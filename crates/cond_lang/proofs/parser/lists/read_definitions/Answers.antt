@@ -32,7 +32,11 @@ returns-clause-place c = λ at i.
       | in-Err-Syntax w ↦
           let T : List Token = kinds c.args.tokens.now in
           let R : List Token = c.definitions_alone.new.self in
-          let g = rw w.in-Err-Syntax.field-0-is at w.in-Err-Syntax.ensures.gives in
-          (length T - length R, first_fault_alone T c.new-parser.result R c.new-parser.ensures g, at_place c.args.tokens.now R c.args.end w.left.result w.offset_of.result at w.left.ensures w.offset_of.ensures (same_at _ _ (rw w.result-is at i)))
+          let g = rw w.in-Err-Syntax.field-0-is at w.in-Err-Syntax.ensures.gives in (
+            length T - length R,
+            first_fault_alone T c.new-parser.result R c.new-parser.ensures g,
+            at_place c.args.tokens.now R c.args.end w.left.result w.offset_of.result at w.left.ensures
+                w.offset_of.ensures (same_at _ _ (rw w.result-is at i)),
+          )
       | in-Err-Memory w ↦ absurd (cc)
     ]

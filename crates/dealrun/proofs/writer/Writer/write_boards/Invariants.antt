@@ -10,5 +10,8 @@ invariant-loop-turn g l = record {
   taken : l._turn ≤ l.self.progress.taken;
   lanes : KeepsLanes l.initial.self.lanes.items l.self.lanes.items;
   is_open : l.self.plan.limit ≢ Some l.self.progress.boards;
-  wrote : (base : Option (List ℕ)) → GoesOn (g.N.Notation.layout l.initial.notation) (g.N.Notation.has_printed l.initial.notation) l.initial.self base (g.S.Sink.bytes l.initial.sink) → GoesOn (g.N.Notation.layout l.initial.notation) (g.N.Notation.has_printed l.notation) l.self base (g.S.Sink.bytes l.sink);
+  wrote : (base : Option (List ℕ)) → GoesOn (g.N.Notation.layout l.initial.notation)
+      (g.N.Notation.has_printed l.initial.notation) l.initial.self base (g.S.Sink.bytes l.initial.sink)
+      → GoesOn (g.N.Notation.layout l.initial.notation) (g.N.Notation.has_printed l.notation) l.self base
+      (g.S.Sink.bytes l.sink);
 }

@@ -10,6 +10,7 @@ invariant_of-self-2 c =
 
 pub returns-clause-taken : goal.returns-clause-taken
 returns-clause-taken c =
-    ap verdicts_in (taken_with_first (received c.self.inside.consumer) c.self.inside.block c.take_first.new.self c.take_first.result c.self.invariant c.take_first.ensures)
+    ap verdicts_in (taken_with_first (received c.self.inside.consumer) c.self.inside.block c.take_first.new.self
+    c.take_first.result c.self.invariant c.take_first.ensures)
     ∙ verdicts-more _ c.take_first.result
     ∙ ap (λ o. o.taken ++ verdict_in c.take_first.result ∷ []) c.self.view_is

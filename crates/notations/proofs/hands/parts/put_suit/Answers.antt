@@ -8,4 +8,10 @@ use Rattle.notations.proofs.hands.parts.put_suit.Goals as goal
 pub returns-clause-columns : goal.returns-clause-columns
 returns-clause-columns c =
     let letters = or_dash (codes "-") (suit_letters c.args.hand.now c.args.suit) in
-    omega (arith, c.put.ensures.len, ap length c.put_or_dash.ensures.text, length-append c.put.new.self letters, columns-suit_text c.args.hand.now c.args.suit)
+    omega (
+      arith,
+      c.put.ensures.len,
+      ap length c.put_or_dash.ensures.text,
+      length-append c.put.new.self letters,
+      columns-suit_text c.args.hand.now c.args.suit,
+    )

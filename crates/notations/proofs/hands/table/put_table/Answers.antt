@@ -6,7 +6,9 @@ use Rattle.notations.specs.Tricks.{five_of}
 use Rattle.notations.proofs.hands.table.put_table.Goals as goal
 
 whole_table : (old digits : List ℕ) → 0 < length digits
-    → ((((old ++ head_line) ++ declarer_line North (five_of North digits)) ++ declarer_line South (five_of South digits)) ++ declarer_line East (five_of East digits)) ++ declarer_line West (five_of West digits)
+    → ((((old ++ head_line) ++ declarer_line North (five_of North digits))
+    ++ declarer_line South (five_of South digits)) ++ declarer_line East (five_of East digits))
+    ++ declarer_line West (five_of West digits)
     ≡ old ++ table_lines digits
 unfolding table_lines
 whole_table old [] some = absurd (omega arith)

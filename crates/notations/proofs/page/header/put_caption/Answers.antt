@@ -1,5 +1,5 @@
 use Rattle.std.proofs.Common.{◌≤◌, ◌*◌, length, subst, sym}
-use Rattle.captions.specs.Room.{room}
+use Rattle.boards.specs.Room.{room}
 use Rattle.notations.proofs.page.header.put_caption.Goals as goal
 
 pub returns-in-Some-clause-most : goal.returns-in-Some-clause-most

@@ -1,5 +1,5 @@
 use Rattle.std.proofs.Common.{◌≡◌, ◌≤◌, ◌+◌, ◌++◌, length, take, drop}
-use Rattle.captions.specs.Room.{room}
+use Rattle.boards.specs.Room.{room}
 use Rattle.notations.specs.Pages.{escaped}
 use Rattle.notations.proofs.page.header.put_escaped.Given as goal
 

@@ -1,5 +1,5 @@
 use Rattle.std.proofs.Common.{ap, arith}
-use Rattle.captions.specs.Room.{room}
+use Rattle.boards.specs.Room.{room}
 use Rattle.notations.proofs.page.header.put_title.Goals as goal
 
 pub returns-else-len-eq0-clause-wide : goal.returns-else-len-eq0-clause-wide

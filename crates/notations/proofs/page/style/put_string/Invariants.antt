@@ -1,5 +1,5 @@
 use Rattle.std.proofs.Common.{◌≡◌, ◌≤◌, ◌+◌, ◌++◌, length, take, drop}
-use Rattle.captions.specs.Room.{room}
+use Rattle.boards.specs.Room.{room}
 use Rattle.notations.specs.Style.{css_string}
 use Rattle.notations.proofs.page.style.put_string.Given as goal
 

@@ -11,19 +11,26 @@ use Rattle.pbn_text.proofs.printer.Printer.print.Goals as goal
 
 -- the pieces of a game, grouped as they are written and as they are defined
 grouped : (labels bo number op dealer vo sides lo lo' n e s w bl cl nl : List ℕ)
-    → labels ++ bo ++ number ++ (cl ++ (op ++ dealer ++ cl) ++ (vo ++ sides ++ cl) ++ (lo ++ lo')) ++ (n ++ bl ++ e ++ bl ++ s ++ bl ++ w ++ (cl ++ nl))
+    → labels ++ bo ++ number ++ (cl ++ (op ++ dealer ++ cl) ++ (vo ++ sides ++ cl) ++ (lo ++ lo'))
+    ++ (n ++ bl ++ e ++ bl ++ s ++ bl ++ w ++ (cl ++ nl))
     ≡ labels ++ (bo ++ number ++ cl ++ (op ++ dealer ++ cl) ++ (vo ++ sides ++ cl)) ++ (lo ++ (lo' ++ n ++ bl ++ e ++ bl ++ s ++ bl ++ w) ++ cl) ++ nl
 grouped labels bo number op dealer vo sides lo lo' n e s w bl cl nl = simp append_assoc
 
 -- the four parts are a game
-joined : (heading : HeadingView) (board : Board) → prefix_text heading ++ decimal board.number ++ board_lines board.dealer board.vulnerable ++ hands_text board.deal ≡ game_text heading board
+joined : (heading : HeadingView) (board : Board) → prefix_text heading ++ decimal board.number
+    ++ board_lines board.dealer board.vulnerable ++ hands_text board.deal ≡ game_text heading board
 unfolding game_text
 joined heading board =
-    grouped (heading_text heading) (codes "[Board \"") (decimal board.number) (codes "[Dealer \"") (dealer_text board.dealer) (codes "[Vulnerable \"") (vulnerable_text board.vulnerable) (codes "[Deal \"") (codes "N:")
-    (hand_text (hand_of board.deal North)) (hand_text (hand_of board.deal East)) (hand_text (hand_of board.deal South)) (hand_text (hand_of board.deal West)) (codes " ") (codes "\"]\n") (codes "\n")
+    grouped (heading_text heading) (codes "[Board \"") (decimal board.number) (codes "[Dealer \"")
+    (dealer_text board.dealer) (codes "[Vulnerable \"") (vulnerable_text board.vulnerable) (codes "[Deal \"")
+    (codes "N:")
+    (hand_text (hand_of board.deal North)) (hand_text (hand_of board.deal East))
+    (hand_text (hand_of board.deal South)) (hand_text (hand_of board.deal West)) (codes " ") (codes "\"]\n")
+    (codes "\n")
 
 -- what three writes in a row put after `start`
-after : (first second third front number middle hands : List ℕ) (from a b c : ℕ) → from ≤ a → a ≤ length first → take b second ≡ take a first ++ middle → take c third ≡ take b second ++ hands
+after : (first second third front number middle hands : List ℕ) (from a b c : ℕ) → from ≤ a → a ≤ length first
+    → take b second ≡ take a first ++ middle → take c third ≡ take b second ++ hands
     → drop from (take a first) ≡ front ++ number → drop from (take c third) ≡ front ++ number ++ middle ++ hands
 after first second third front number middle hands from a b c order within w1 w2 start =
     let long : length (take a first) ≡ a = length-take-le a first within in
@@ -33,7 +40,9 @@ after first second third front number middle hands from a b c order within w1 w2
     ∙ sym (append_assoc (front ++ number) middle hands)
 
 -- what two writes from 272 on leave
-kept : (first second third middle hands : List ℕ) (n b c : ℕ) → n ≤ 272 → 272 ≤ length first → b ≤ length second → 272 ≤ b → b ≤ c → take b second ≡ take 272 first ++ middle → take c third ≡ take b second ++ hands → take n third ≡ take n first
+kept : (first second third middle hands : List ℕ) (n b c : ℕ) → n ≤ 272 → 272 ≤ length first → b ≤ length second
+    → 272 ≤ b → b ≤ c → take b second ≡ take 272 first ++ middle → take c third ≡ take b second ++ hands
+    → take n third ≡ take n first
 kept first second third middle hands n b c inside l1 l2 ob oc w1 w2 =
     kept_before third second hands n b c w2 (omega arith) l2 (omega arith) ∙ kept_before second first middle n 272 b w1 inside l1 (omega arith)
 
@@ -44,7 +53,10 @@ invariant_of-self c =
     let third = c.put_hands-self-inside.new.buffer in
     let prefix = c.put_number-self-inside.ensures.prefix in
     let number = c.put_number-self-inside.result.number_start in
-    let same = λ (n : ℕ) (inside : n ≤ 272). kept first second third (board_lines c.args.board.now.dealer c.args.board.now.vulnerable) (hands_text c.args.board.now.deal) n c.put_board_lines-hands.result c.put_hands-self-inside.result inside (omega arith) (omega arith) (omega arith) (omega arith) c.put_board_lines-hands.ensures.written c.put_hands-self-inside.ensures.written in
+    let same = λ (n : ℕ) (inside : n ≤ 272). kept first second third
+    (board_lines c.args.board.now.dealer c.args.board.now.vulnerable) (hands_text c.args.board.now.deal) n
+    c.put_board_lines-hands.result c.put_hands-self-inside.result inside (omega arith) (omega arith) (omega arith)
+    (omega arith) c.put_board_lines-hands.ensures.written c.put_hands-self-inside.ensures.written in
     record {
       prefix = record {
         order = prefix.order;
@@ -63,8 +75,13 @@ returns-clause-text c =
     let from = c.put_number-self-inside.result.start in
     let number = c.put_number-self-inside.result.number_start in
     let start : drop from (take 272 first) ≡ prefix_text c.self.inside.heading ++ decimal c.args.board.now.number =
-    with_digits first (prefix_text c.self.inside.heading) (decimal c.args.board.now.number) from number 272 (omega (arith, prefix.inside)) prefix.order prefix.inside (prefix.digits ∙ ap decimal c.put_number-self-inside.ensures.number) prefix.lines in
-    after first c.put_board_lines-hands.new.buffer c.put_hands-self-inside.new.buffer (prefix_text c.self.inside.heading) (decimal c.args.board.now.number) (board_lines c.args.board.now.dealer c.args.board.now.vulnerable) (hands_text c.args.board.now.deal) from 272 _ _ (omega (arith, prefix.order, prefix.inside)) (omega arith)
+    with_digits first (prefix_text c.self.inside.heading) (decimal c.args.board.now.number) from number 272
+    (omega (arith, prefix.inside)) prefix.order prefix.inside
+    (prefix.digits ∙ ap decimal c.put_number-self-inside.ensures.number) prefix.lines in
+    after first c.put_board_lines-hands.new.buffer c.put_hands-self-inside.new.buffer
+    (prefix_text c.self.inside.heading) (decimal c.args.board.now.number)
+    (board_lines c.args.board.now.dealer c.args.board.now.vulnerable) (hands_text c.args.board.now.deal) from 272
+    _ _ (omega (arith, prefix.order, prefix.inside)) (omega arith)
     c.put_board_lines-hands.ensures.written c.put_hands-self-inside.ensures.written start
     ∙ joined c.self.inside.heading c.args.board.now
     ∙ ap (λ p. game_text p.heading c.args.board.now) c.self.view_is

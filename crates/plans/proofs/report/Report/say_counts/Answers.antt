@@ -24,7 +24,11 @@ returns-clause-text g c =
     let x5 = x4 ++ few in
     let of_seed = c.with.ensures ∙ append-nil _ ∙ ap (λ n. codes " of seed " ++ decimal n) (c.from.ensures ∙ c.seed.ensures) in
     let p2 = part base b1 b2 x1 (codes " from ") x2 refl c.in_ok-put_boards.ensures.text c.in_ok-put_all.ensures.bytes in
-    let p3 = part base b2 b3 x2 tried x3 refl p2 (as_text b2 b3 _ tried (ap (λ n. candidates_text n s.candidates) c.first.ensures.value) c.in_ok-put_candidates.ensures.text) in
-    let p4 = part base b3 b4 x3 (codes " of seed " ++ seed) x4 (sym (append_assoc x3 (codes " of seed ") seed)) p3 (as_text b3 b4 _ (codes " of seed " ++ seed) of_seed c.in_ok-print.ensures.text) in
-    let p5 = part base b4 b5 x4 few x5 refl p4 (as_text b4 b5 _ few (ap (λ o. shortfall o s.boards) c.limit.ensures.value) c.in_ok-put_shortfall.ensures.text) in
-    last_part c.put_all-2.result base b5 b6 x5 (codes "\n") (report_line s.plan s.candidates s.boards) refl p5 (written c.put_all-2.result b5 b6 (codes "\n") c.put_all-2.ensures.bytes)
+    let p3 = part base b2 b3 x2 tried x3 refl p2 (as_text b2 b3 _ tried
+    (ap (λ n. candidates_text n s.candidates) c.first.ensures.value) c.in_ok-put_candidates.ensures.text) in
+    let p4 = part base b3 b4 x3 (codes " of seed " ++ seed) x4 (sym (append_assoc x3 (codes " of seed ") seed)) p3
+    (as_text b3 b4 _ (codes " of seed " ++ seed) of_seed c.in_ok-print.ensures.text) in
+    let p5 = part base b4 b5 x4 few x5 refl p4 (as_text b4 b5 _ few
+    (ap (λ o. shortfall o s.boards) c.limit.ensures.value) c.in_ok-put_shortfall.ensures.text) in
+    last_part c.put_all-2.result base b5 b6 x5 (codes "\n") (report_line s.plan s.candidates s.boards) refl p5
+    (written c.put_all-2.result b5 b6 (codes "\n") c.put_all-2.ensures.bytes)

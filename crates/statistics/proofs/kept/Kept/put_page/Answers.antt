@@ -12,7 +12,9 @@ pub returns-in_err-put_piece-clause-bytes : goal.returns-in_err-put_piece-clause
 unfolding count_text page_text
 returns-in_err-put_piece-clause-bytes g c deals h =
     let head : List ℕ = page_head (page_title (asked_of c.args.self.now)) (sentence (length deals) c.args.tried) in
-    let e : c.page_head.result ≡ head = c.page_head.ensures ∙ ap (λ (n : ℕ). page_head (page_title (asked_of c.args.self.now)) (sentence n c.args.tried)) (deals_counted c.args.self.now deals h) in
+    let e : c.page_head.result ≡ head = c.page_head.ensures
+    ∙ ap (λ (n : ℕ). page_head (page_title (asked_of c.args.self.now)) (sentence n c.args.tried))
+    (deals_counted c.args.self.now deals h) in
     let broken = three_at_first (g.S.Sink.bytes c.args.sink.now) (g.S.Sink.bytes c.put_piece.new.sink) c.page_head.result
     head (page_part (asked_of c.args.self.now) deals) page_foot e c.in_err-put_piece.ensures.bytes in
     MatchResult-from_err c.from_residual.result _ _ c.from_residual.ensures.0 (λ _. broken)
@@ -21,8 +23,11 @@ pub returns-in_err-put_page_part-clause-bytes : goal.returns-in_err-put_page_par
 unfolding count_text page_text
 returns-in_err-put_page_part-clause-bytes g c deals h =
     let head : List ℕ = page_head (page_title (asked_of c.args.self.now)) (sentence (length deals) c.args.tried) in
-    let e : c.page_head.result ≡ head = c.page_head.ensures ∙ ap (λ (n : ℕ). page_head (page_title (asked_of c.args.self.now)) (sentence n c.args.tried)) (deals_counted c.args.self.now deals h) in
-    let broken = three_at_second (g.S.Sink.bytes c.args.sink.now) (g.S.Sink.bytes c.put_piece.new.sink) (g.S.Sink.bytes c.put_page_part.new.sink) c.page_head.result
+    let e : c.page_head.result ≡ head = c.page_head.ensures
+    ∙ ap (λ (n : ℕ). page_head (page_title (asked_of c.args.self.now)) (sentence n c.args.tried))
+    (deals_counted c.args.self.now deals h) in
+    let broken = three_at_second (g.S.Sink.bytes c.args.sink.now) (g.S.Sink.bytes c.put_piece.new.sink)
+    (g.S.Sink.bytes c.put_page_part.new.sink) c.page_head.result
     head (page_part (asked_of c.args.self.now) deals) page_foot e c.in_ok-put_piece.ensures.bytes (c.in_err-put_page_part.ensures.bytes deals h) in
     MatchResult-from_err c.from_residual-in_err-put_page_part.result _ _ c.from_residual-in_err-put_page_part.ensures.0 (λ _. broken)
 
@@ -30,7 +35,10 @@ pub returns-clause-bytes : goal.returns-clause-bytes
 unfolding count_text page_text page_foot
 returns-clause-bytes g c deals h =
     let head : List ℕ = page_head (page_title (asked_of c.args.self.now)) (sentence (length deals) c.args.tried) in
-    let e : c.page_head.result ≡ head = c.page_head.ensures ∙ ap (λ (n : ℕ). page_head (page_title (asked_of c.args.self.now)) (sentence n c.args.tried)) (deals_counted c.args.self.now deals h) in
-    three_parts c.put_all.result (g.S.Sink.bytes c.args.sink.now) (g.S.Sink.bytes c.put_piece.new.sink) (g.S.Sink.bytes c.put_page_part.new.sink) (g.S.Sink.bytes c.put_all.new.sink)
+    let e : c.page_head.result ≡ head = c.page_head.ensures
+    ∙ ap (λ (n : ℕ). page_head (page_title (asked_of c.args.self.now)) (sentence n c.args.tried))
+    (deals_counted c.args.self.now deals h) in
+    three_parts c.put_all.result (g.S.Sink.bytes c.args.sink.now) (g.S.Sink.bytes c.put_piece.new.sink)
+    (g.S.Sink.bytes c.put_page_part.new.sink) (g.S.Sink.bytes c.put_all.new.sink)
     c.page_head.result page_foot head (page_part (asked_of c.args.self.now) deals) page_foot e refl
     c.in_ok-put_piece.ensures.bytes (c.in_ok-put_page_part.ensures.bytes deals h) c.put_all.ensures.bytes

@@ -10,7 +10,8 @@ use Rattle.statistics.proofs.kept.Kept.put_page_part.Goals as goal
 pub returns-then-deals-eq0-clause-bytes : goal.returns-then-deals-eq0-clause-bytes
 returns-then-deals-eq0-clause-bytes g c deals h =
     let none : length deals ≡ 0 = sym (c.deals.ensures.value ∙ deals_counted c.args.self.now deals h) ∙ c.if-deals-eq0.true in
-    subst (AppendsAll (g.S.Sink.bytes c.args.sink.now) (g.S.Sink.bytes c.args.sink.now)) (sym (none_on_page (asked_of c.args.self.now) deals none)) (no_part (g.S.Sink.bytes c.args.sink.now))
+    subst (AppendsAll (g.S.Sink.bytes c.args.sink.now) (g.S.Sink.bytes c.args.sink.now))
+    (sym (none_on_page (asked_of c.args.self.now) deals none)) (no_part (g.S.Sink.bytes c.args.sink.now))
 
 pub returns-else-deals-eq0-clause-bytes : goal.returns-else-deals-eq0-clause-bytes
 returns-else-deals-eq0-clause-bytes g c deals h =

@@ -16,7 +16,9 @@ returns-in_err-put_piece-clause-bytes g c deals h =
     let n : c.deals.result ≡ length deals = c.deals.ensures.value ∙ deals_counted c.args.self.now deals h in
     let broken = part_more (g.S.Sink.bytes c.args.sink.now) (g.S.Sink.bytes c.put_piece.new.sink) (sentence (length deals) c.args.tried ++ codes "\n")
     (if length deals == 0 then [] else table_text (asked_of c.args.self.now) deals)
-    (subst (AppendsPart (g.S.Sink.bytes c.args.sink.now) (g.S.Sink.bytes c.put_piece.new.sink)) (c.sentence_line.ensures ∙ sentence_is c.deals.result (length deals) c.args.tried n) c.in_err-put_piece.ensures.bytes) in
+    (subst (AppendsPart (g.S.Sink.bytes c.args.sink.now) (g.S.Sink.bytes c.put_piece.new.sink))
+    (c.sentence_line.ensures ∙ sentence_is c.deals.result (length deals) c.args.tried n)
+    c.in_err-put_piece.ensures.bytes) in
     MatchResult-from_err c.from_residual.result _ _ c.from_residual.ensures.0 (λ _. broken)
 
 pub returns-then-deals-eq0-clause-bytes : goal.returns-then-deals-eq0-clause-bytes
@@ -24,7 +26,8 @@ returns-then-deals-eq0-clause-bytes g c deals h =
     let n : c.deals.result ≡ length deals = c.deals.ensures.value ∙ deals_counted c.args.self.now deals h in
     let none : length deals ≡ 0 = sym (c.deals-2.ensures.value ∙ deals_counted c.args.self.now deals h) ∙ c.if-deals-eq0.true in
     subst (AppendsAll (g.S.Sink.bytes c.args.sink.now) (g.S.Sink.bytes c.put_piece.new.sink))
-    (c.sentence_line.ensures ∙ sentence_is c.deals.result (length deals) c.args.tried n ∙ told_of_none (asked_of c.args.self.now) deals c.args.tried none) c.in_ok-put_piece.ensures.bytes
+    (c.sentence_line.ensures ∙ sentence_is c.deals.result (length deals) c.args.tried n
+    ∙ told_of_none (asked_of c.args.self.now) deals c.args.tried none) c.in_ok-put_piece.ensures.bytes
 
 pub returns-else-deals-eq0-clause-bytes : goal.returns-else-deals-eq0-clause-bytes
 returns-else-deals-eq0-clause-bytes g c deals h =
@@ -34,5 +37,7 @@ returns-else-deals-eq0-clause-bytes g c deals h =
     (told_of_some (asked_of c.args.self.now) deals c.args.tried (λ none. c.if-deals-eq0.false (same ∙ none)))
     (then_either c.put_body.result (g.S.Sink.bytes c.args.sink.now) (g.S.Sink.bytes c.put_piece.new.sink) (g.S.Sink.bytes c.put_body.new.sink)
     (sentence (length deals) c.args.tried ++ codes "\n") (table_text (asked_of c.args.self.now) deals)
-    (subst (AppendsAll (g.S.Sink.bytes c.args.sink.now) (g.S.Sink.bytes c.put_piece.new.sink)) (c.sentence_line.ensures ∙ sentence_is c.deals.result (length deals) c.args.tried n) c.in_ok-put_piece.ensures.bytes)
+    (subst (AppendsAll (g.S.Sink.bytes c.args.sink.now) (g.S.Sink.bytes c.put_piece.new.sink))
+    (c.sentence_line.ensures ∙ sentence_is c.deals.result (length deals) c.args.tried n)
+    c.in_ok-put_piece.ensures.bytes)
     (c.put_body.ensures.bytes deals h))

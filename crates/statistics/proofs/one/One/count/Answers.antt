@@ -4,4 +4,5 @@ use Rattle.statistics.proofs.one.One.count.Goals as goal
 
 pub returns-clause-counted : goal.returns-clause-counted
 returns-clause-counted c deals h =
-    one_counted c.args.self.now c.add.new.self c.args.deal.now deals c.answer-answer.result c.add.ensures.one c.answer-answer.ensures.value c.answer-answer.ensures.within h
+    one_counted c.args.self.now c.add.new.self c.args.deal.now deals c.answer-answer.result c.add.ensures.one
+    c.answer-answer.ensures.value c.answer-answer.ensures.within h

@@ -10,8 +10,10 @@ pub returns-in_err-put_piece-clause-bytes : goal.returns-in_err-put_piece-clause
 returns-in_err-put_piece-clause-bytes g c =
     let f : ℕ → List ℕ = numbered_kept c.args.question c.args.self.now in
     let broken = all_broken (g.S.Sink.bytes c.args.sink.now) (g.S.Sink.bytes c.loop-number.sink) (g.S.Sink.bytes c.put_piece.new.sink) f
-    (rows_of_one c.args.self.now).first c.loop-number.number (rows_of_one c.args.self.now).end c.loop-number.invariant.first (omega (arith, c.loop-number.invariant.end))
-    c.loop-number.invariant.bytes (subst (AppendsPart (g.S.Sink.bytes c.loop-number.sink) (g.S.Sink.bytes c.put_piece.new.sink)) c.numbered_row.ensures c.in_err-put_piece.ensures.bytes) in
+    (rows_of_one c.args.self.now).first c.loop-number.number (rows_of_one c.args.self.now).end
+    c.loop-number.invariant.first (omega (arith, c.loop-number.invariant.end))
+    c.loop-number.invariant.bytes (subst (AppendsPart (g.S.Sink.bytes c.loop-number.sink)
+    (g.S.Sink.bytes c.put_piece.new.sink)) c.numbered_row.ensures c.in_err-put_piece.ensures.bytes) in
     MatchResult-from_err c.from_residual.result _ _ c.from_residual.ensures.0 (λ _. broken)
 
 pub loop-number-preserved : goal.loop-number-preserved
@@ -20,7 +22,8 @@ loop-number-preserved g c =
     record {
       bytes = all_more (g.S.Sink.bytes c.args.sink.now) (g.S.Sink.bytes c.loop-number.sink) (g.S.Sink.bytes c.put_piece.new.sink) f
           (rows_of_one c.args.self.now).first c.loop-number.number c.loop-number.invariant.first
-          c.loop-number.invariant.bytes (subst (AppendsAll (g.S.Sink.bytes c.loop-number.sink) (g.S.Sink.bytes c.put_piece.new.sink)) c.numbered_row.ensures c.in_ok-put_piece.ensures.bytes);
+          c.loop-number.invariant.bytes (subst (AppendsAll (g.S.Sink.bytes c.loop-number.sink)
+          (g.S.Sink.bytes c.put_piece.new.sink)) c.numbered_row.ensures c.in_ok-put_piece.ensures.bytes);
       faults = search rules;
       first = omega arith;
       end = c.loop-number.invariant.end;

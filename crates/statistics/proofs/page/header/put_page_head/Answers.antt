@@ -5,4 +5,14 @@ use Rattle.statistics.proofs.page.header.put_page_head.Goals as goal
 pub returns : goal.returns
 unfolding page_head
 returns c =
-    rw (c.put-4.ensures.text, c.put_sentence.ensures.text, c.put-3.ensures.text, c.put_escaped-2.ensures.text, c.put-2.ensures.text, c.put_style.ensures.text, c.put.ensures.text, c.put_escaped.ensures.text, c.put_opening.ensures.text) (simp append_assoc)
+    rw (
+      c.put-4.ensures.text,
+      c.put_sentence.ensures.text,
+      c.put-3.ensures.text,
+      c.put_escaped-2.ensures.text,
+      c.put-2.ensures.text,
+      c.put_style.ensures.text,
+      c.put.ensures.text,
+      c.put_escaped.ensures.text,
+      c.put_opening.ensures.text,
+    ) (simp append_assoc)

@@ -9,7 +9,8 @@ loop-number-preserved c =
     let step : c.max-most.result ≡ max c.loop-number.most (most_in_row c.args.self.now c.loop-number.number) = search rules in
     record {
       most = step ∙ ap (λ (m : ℕ). max m (most_in_row c.args.self.now c.loop-number.number)) c.loop-number.invariant.most
-          ∙ sym (most_more (λ (n : ℕ). most_in_row c.args.self.now n) (rows_of_one c.args.self.now.of).first c.loop-number.number c.loop-number.invariant.first);
+          ∙ sym (most_more (λ (n : ℕ). most_in_row c.args.self.now n) (rows_of_one c.args.self.now.of).first
+          c.loop-number.number c.loop-number.invariant.first);
       first = omega arith;
       end = c.loop-number.invariant.end;
       counts = c.loop-number.invariant.counts;

@@ -7,7 +7,8 @@ use Rattle.statistics.proofs.two.Two.most_cell.Given as goal
 
 abbrev pub invariant-loop-number : goal.invariant-loop-number
 invariant-loop-number l = record {
-  most : l.most ≡ fold max 0 (map (λ n. most_in_row l.self n) (range_with_len (rows_of_one l.self.of).first (l.number - (rows_of_one l.self.of).first)));
+  most : l.most ≡ fold max 0 (map (λ n. most_in_row l.self n)
+      (range_with_len (rows_of_one l.self.of).first (l.number - (rows_of_one l.self.of).first)));
   first : (rows_of_one l.self.of).first ≤ l.number;
   end : l.number-end ≡ (rows_of_one l.self.of).end;
   counts : l.number-end ≤ length l.self.of.counts;

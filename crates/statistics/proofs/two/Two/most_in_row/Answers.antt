@@ -9,7 +9,8 @@ loop-column-preserved c =
     let step : c.max-most.result ≡ max c.loop-column.most (cell_at c.args.self.now c.args.row c.loop-column.column) = search rules in
     record {
       most = step ∙ ap (λ (m : ℕ). max m (cell_at c.args.self.now c.args.row c.loop-column.column)) c.loop-column.invariant.most
-          ∙ sym (most_more (λ (m : ℕ). cell_at c.args.self.now c.args.row m) (columns_of_two c.args.self.now).first c.loop-column.column c.loop-column.invariant.first);
+          ∙ sym (most_more (λ (m : ℕ). cell_at c.args.self.now c.args.row m) (columns_of_two c.args.self.now).first
+          c.loop-column.column c.loop-column.invariant.first);
       first = omega arith;
       end = c.loop-column.invariant.end;
       counts = c.loop-column.invariant.counts;

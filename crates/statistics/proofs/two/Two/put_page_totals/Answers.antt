@@ -15,13 +15,17 @@ returns-in_err-put_all-clause-bytes g c =
 pub returns-in_err-put_totals-clause-bytes : goal.returns-in_err-put_totals-clause-bytes
 unfolding bottom_kept
 returns-in_err-put_totals-clause-bytes g c =
-    let broken = three_at_second (g.S.Sink.bytes c.args.sink.now) (g.S.Sink.bytes c.put_all.new.sink) (g.S.Sink.bytes c.put_totals.new.sink) (codes "</tbody>\n<tfoot>\n")
-    (codes "</tbody>\n<tfoot>\n") (totals_kept c.args.self.now Html) (codes "</tfoot>\n</table>\n</div>\n") refl c.in_ok-put_all.ensures.bytes c.in_err-put_totals.ensures.bytes in
+    let broken = three_at_second (g.S.Sink.bytes c.args.sink.now) (g.S.Sink.bytes c.put_all.new.sink)
+    (g.S.Sink.bytes c.put_totals.new.sink) (codes "</tbody>\n<tfoot>\n")
+    (codes "</tbody>\n<tfoot>\n") (totals_kept c.args.self.now Html) (codes "</tfoot>\n</table>\n</div>\n") refl
+    c.in_ok-put_all.ensures.bytes c.in_err-put_totals.ensures.bytes in
     MatchResult-from_err c.from_residual-in_err-put_totals.result _ _ c.from_residual-in_err-put_totals.ensures.0 (λ _. broken)
 
 pub returns-clause-bytes : goal.returns-clause-bytes
 unfolding bottom_kept
 returns-clause-bytes g c =
-    three_parts c.put_all-2.result (g.S.Sink.bytes c.args.sink.now) (g.S.Sink.bytes c.put_all.new.sink) (g.S.Sink.bytes c.put_totals.new.sink) (g.S.Sink.bytes c.put_all-2.new.sink)
-    (codes "</tbody>\n<tfoot>\n") (codes "</tfoot>\n</table>\n</div>\n") (codes "</tbody>\n<tfoot>\n") (totals_kept c.args.self.now Html) (codes "</tfoot>\n</table>\n</div>\n")
+    three_parts c.put_all-2.result (g.S.Sink.bytes c.args.sink.now) (g.S.Sink.bytes c.put_all.new.sink)
+    (g.S.Sink.bytes c.put_totals.new.sink) (g.S.Sink.bytes c.put_all-2.new.sink)
+    (codes "</tbody>\n<tfoot>\n") (codes "</tfoot>\n</table>\n</div>\n") (codes "</tbody>\n<tfoot>\n")
+    (totals_kept c.args.self.now Html) (codes "</tfoot>\n</table>\n</div>\n")
     refl refl c.in_ok-put_all.ensures.bytes c.in_ok-put_totals.ensures.bytes c.put_all-2.ensures.bytes

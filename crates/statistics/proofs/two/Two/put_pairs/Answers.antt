@@ -10,21 +10,27 @@ pub returns-in_err-any-clause-bytes : goal.returns-in_err-any-clause-bytes
 returns-in_err-any-clause-bytes g c =
     let f : ℕ → List ℕ = row_kept c.args.self.now in
     let broken = items_broken (g.S.Sink.bytes c.args.sink.now) (g.S.Sink.bytes c.loop-number.sink) (g.S.Sink.bytes c.put_row_pairs.new.sink) f false
-    (rows_of_one c.args.self.now.of).first c.loop-number.number (rows_of_one c.args.self.now.of).end c.loop-number.invariant.first (omega (arith, c.loop-number.invariant.end))
+    (rows_of_one c.args.self.now.of).first c.loop-number.number (rows_of_one c.args.self.now.of).end
+    c.loop-number.invariant.first (omega (arith, c.loop-number.invariant.end))
     c.loop-number.invariant.bytes
-    (subst (AppendsPart (g.S.Sink.bytes c.loop-number.sink) (g.S.Sink.bytes c.put_row_pairs.new.sink)) (ap (λ (any : Bool). after any (f c.loop-number.number)) c.loop-number.invariant.some) c.in_err-any.ensures.bytes) in
+    (subst (AppendsPart (g.S.Sink.bytes c.loop-number.sink) (g.S.Sink.bytes c.put_row_pairs.new.sink))
+    (ap (λ (any : Bool). after any (f c.loop-number.number)) c.loop-number.invariant.some)
+    c.in_err-any.ensures.bytes) in
     MatchResult-from_err c.from_residual.result _ _ c.from_residual.ensures.0 (λ _. broken)
 
 pub loop-number-preserved : goal.loop-number-preserved
 loop-number-preserved g c =
     let f : ℕ → List ℕ = row_kept c.args.self.now in
     record {
-      some = some_yet f false c.loop-number.any c.in_ok-any.any (rows_of_one c.args.self.now.of).first c.loop-number.number c.loop-number.invariant.first
+      some = some_yet f false c.loop-number.any c.in_ok-any.any (rows_of_one c.args.self.now.of).first
+          c.loop-number.number c.loop-number.invariant.first
           c.loop-number.invariant.some c.in_ok-any.ensures.any;
       bytes = items_more (g.S.Sink.bytes c.args.sink.now) (g.S.Sink.bytes c.loop-number.sink) (g.S.Sink.bytes c.put_row_pairs.new.sink) f false
           (rows_of_one c.args.self.now.of).first c.loop-number.number c.loop-number.invariant.first
           c.loop-number.invariant.bytes
-          (subst (AppendsAll (g.S.Sink.bytes c.loop-number.sink) (g.S.Sink.bytes c.put_row_pairs.new.sink)) (ap (λ (any : Bool). after any (f c.loop-number.number)) c.loop-number.invariant.some) c.in_ok-any.ensures.bytes);
+          (subst (AppendsAll (g.S.Sink.bytes c.loop-number.sink) (g.S.Sink.bytes c.put_row_pairs.new.sink))
+          (ap (λ (any : Bool). after any (f c.loop-number.number)) c.loop-number.invariant.some)
+          c.in_ok-any.ensures.bytes);
       faults = search rules;
       first = omega arith;
       end = c.loop-number.invariant.end;

@@ -8,7 +8,8 @@ use Rattle.statistics.proofs.two.Two.put_row_pairs.Given as goal
 
 abbrev pub invariant-loop-column : goal.invariant-loop-column
 invariant-loop-column g l = record {
-  some : l.some ≡ (l.any || has_some (flat_map (pair_kept l.self l.row) (range_with_len (columns_of_two l.self).first (l.column - (columns_of_two l.self).first))));
+  some : l.some ≡ (l.any || has_some (flat_map (pair_kept l.self l.row)
+      (range_with_len (columns_of_two l.self).first (l.column - (columns_of_two l.self).first))));
   bytes : AppendsAll (g.S.Sink.bytes l.initial.sink) (g.S.Sink.bytes l.sink)
       (after l.any (flat_map (pair_kept l.self l.row) (range_with_len (columns_of_two l.self).first (l.column - (columns_of_two l.self).first))));
   faults : g.S.Sink.faults l.sink ≡ g.S.Sink.faults l.initial.sink;

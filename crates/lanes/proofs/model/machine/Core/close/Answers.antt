@@ -10,7 +10,8 @@ pub invariant_of-self : goal.invariant_of-self
 invariant_of-self c =
     let f = c.self.inside in
     let w = c.args.worker in
-    let here : is_allowed (machine_of f) (Close w) ≡ true = allows f c.args.self.now (Close w) c.self.view_is (sym c.may_close.ensures ∙ c.if-not-may_close.false) in
+    let here : is_allowed (machine_of f) (Close w) ≡ true =
+    allows f c.args.self.now (Close w) c.self.view_is (sym c.may_close.ensures ∙ c.if-not-may_close.false) in
     keeps f _ (Close w) c.self.invariant here (close_fields f w (may_close (machine_of f) w here).worker) refl refl refl
 
 pub returns-clause-after : goal.returns-clause-after

@@ -11,7 +11,9 @@ invariant_of-result c =
       few = omega arith;
       lanes = omega arith;
       room = omega arith;
-      sound = subst IsSound (sym (new_fields a.count a.workers a.capacity (omega arith))) (sound (new_machine a.count a.workers a.capacity) (kept_new a.count a.workers a.capacity (omega arith)) (omega arith));
+      sound = subst IsSound (sym (new_fields a.count a.workers a.capacity (omega arith)))
+          (sound (new_machine a.count a.workers a.capacity) (kept_new a.count a.workers a.capacity (omega arith))
+          (omega arith));
     }
 
 pub returns-clause-start : goal.returns-clause-start

@@ -10,7 +10,8 @@ pub invariant_of-self : goal.invariant_of-self
 invariant_of-self c =
     let f = c.self.inside in
     let w = c.args.worker in
-    let here : is_allowed (machine_of f) (Send w) ≡ true = allows f c.args.self.now (Send w) c.self.view_is (sym c.may_send.ensures ∙ c.if-not-may_send.false) in
+    let here : is_allowed (machine_of f) (Send w) ≡ true =
+    allows f c.args.self.now (Send w) c.self.view_is (sym c.may_send.ensures ∙ c.if-not-may_send.false) in
     keeps f _ (Send w) c.self.invariant here (send_fields f w (may_send (machine_of f) w here).worker) refl refl refl
 
 pub returns-clause-after : goal.returns-clause-after

@@ -1,3 +1,0 @@
-pub mod Captions
-pub mod Room
-pub mod internal

@@ -1,2 +1,0 @@
--- What only bodies and lemmas use: no public clause names any of it.
-pub mod Kept

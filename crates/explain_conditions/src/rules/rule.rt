@@ -1,0 +1,324 @@
+//! Rules that a table holds: what is around a fault, and what is said of it.
+//!
+//! A table is a text with a rule in each line, its pattern and its hint (`filling`) with `=>`
+//! between them. A pattern is words with blanks between them: what holds at the fault, the parts
+//! before it, `^`, the part with the fault and those after it. `Seat , ^ suits|majors )` fits
+//! `len(north,majors)` at `majors`. These are the words, for texts T with `|` between them:
+//!
+//! | Word | What it wants |
+//! |---|---|
+//! | `Can:K`, `Cannot:K` | a token of the kind K (`KINDS`) may come at the fault, or could not |
+//! | `In:T`, `NotIn:T` | the fault is in the brackets of one of the words T, or of none of them |
+//! | `InCall`, `NotInCall` | it is in the brackets of a word that takes a seat, or of none |
+//! | `InCount` | it is in the brackets of a word that counts something |
+//! | `T`, `Except:T` | one of the texts T, or none of them |
+//! | `Named:T` | the part with the fault is one of them, in letters of any size |
+//! | `Begins:T` | it begins with one of them |
+//! | `Nothing`, `Any` | no part: the text begins or ends there; any part, or none |
+//! | `Number`, `Digits:N` | a number, or one of N digits |
+//! | `Zeros` | a number of more than four digits whose first ones are zeros |
+//! | `Length` | a number, or `x` |
+//! | `Above`, `Follows` | a number above that of two parts before, or the one after it |
+//! | `Relation`, `Seat`, `Suit`, `Word` | what they say |
+//! | `Known`, `Name` | a word of the language; one that is neither that nor ranks |
+//! | `InName` | the fault is in the brackets of such a word |
+//! | `Later` | a word that the text gives as a name further on |
+//! | `Own` | a name that is in the brackets of its own definition |
+//! | `Defined` | the bracket that ends what a name stands for |
+//! | `InPlainBody` | the fault is in what a name without brackets stands for |
+//! | `Ranks` | ranks, whether or not one occurs twice |
+//! | `Capital` | a word that has letters that aren't small |
+//! | `CapitalWord`, `CapitalRanks` | one that is known, or ranks, once they are |
+//! | `Count`, `NoValue` | a word that counts something; neither that nor a number |
+//! | `Value`, `Call` | the last part of a value, or the bracket that ends one |
+//! | `Bracketed`, `Chained` | the last part of a value after a bracket, or after a comparison |
+//! | `Suffix:S` | the sign S right after a part and apart from the next |
+//! | `Amount`, `Counted` | an amount, as `15-17`, or one with a word that says of what |
+//!
+//! No text means no part: `|and|or` is the end, or one of these. A name in capitals stands for a
+//! list of texts (`lists`); `MEASURES`, which may be one of several texts, for the language's own.
+
+use crate::rules::amounts::{amount_at, counted_at};
+use crate::rules::lists::listed;
+use crate::rules::parts::Parts;
+use crate::rules::words::{
+    are_ranks, is, is_call, is_count, is_name, is_number, is_relation, is_seat, is_suit, is_word,
+    measure_word, number, token_of,
+};
+use cond_lang::{Class, Kind};
+
+/// The text of a pattern that stands for the words of all measures.
+const MEASURES: &str = "MEASURES";
+
+/// What a word of a pattern wants, but for a text that stands there.
+#[derive(Clone, Copy)]
+enum Want {
+    Can,
+    Cannot,
+    In,
+    NotIn,
+    InCall,
+    NotInCall,
+    InCount,
+    Except,
+    Named,
+    Begins,
+    Nothing,
+    Any,
+    Number,
+    Digits,
+    Zeros,
+    Length,
+    Above,
+    Follows,
+    Relation,
+    Seat,
+    Suit,
+    Word,
+    Known,
+    Name,
+    InName,
+    Later,
+    Own,
+    Defined,
+    InPlainBody,
+    Ranks,
+    Capital,
+    CapitalWord,
+    CapitalRanks,
+    Count,
+    NoValue,
+    Value,
+    Call,
+    Bracketed,
+    Chained,
+    Suffix,
+    Amount,
+    Counted,
+}
+
+static WANTS: [(&str, Want); 42] = [
+    ("Can", Want::Can),
+    ("Cannot", Want::Cannot),
+    ("In", Want::In),
+    ("NotIn", Want::NotIn),
+    ("InCall", Want::InCall),
+    ("NotInCall", Want::NotInCall),
+    ("InCount", Want::InCount),
+    ("Except", Want::Except),
+    ("Named", Want::Named),
+    ("Begins", Want::Begins),
+    ("Nothing", Want::Nothing),
+    ("Any", Want::Any),
+    ("Number", Want::Number),
+    ("Digits", Want::Digits),
+    ("Zeros", Want::Zeros),
+    ("Length", Want::Length),
+    ("Above", Want::Above),
+    ("Follows", Want::Follows),
+    ("Relation", Want::Relation),
+    ("Seat", Want::Seat),
+    ("Suit", Want::Suit),
+    ("Word", Want::Word),
+    ("Known", Want::Known),
+    ("Name", Want::Name),
+    ("InName", Want::InName),
+    ("Later", Want::Later),
+    ("Own", Want::Own),
+    ("Defined", Want::Defined),
+    ("InPlainBody", Want::InPlainBody),
+    ("Ranks", Want::Ranks),
+    ("Capital", Want::Capital),
+    ("CapitalWord", Want::CapitalWord),
+    ("CapitalRanks", Want::CapitalRanks),
+    ("Count", Want::Count),
+    ("NoValue", Want::NoValue),
+    ("Value", Want::Value),
+    ("Call", Want::Call),
+    ("Bracketed", Want::Bracketed),
+    ("Chained", Want::Chained),
+    ("Suffix", Want::Suffix),
+    ("Amount", Want::Amount),
+    ("Counted", Want::Counted),
+];
+
+/// The kinds of tokens that rules ask for.
+static KINDS: [(&str, Kind); 17] = [
+    ("Let", Kind::Let),
+    ("Is", Kind::Is),
+    ("Not", Kind::Not),
+    ("Open", Kind::Open),
+    ("Number", Kind::Number),
+    ("Relation", Kind::Relation),
+    ("Plus", Kind::Plus),
+    ("Comma", Kind::Comma),
+    ("Seat", Kind::Seat),
+    ("Suit", Kind::Suit),
+    ("Ranks", Kind::Ranks),
+    ("Close", Kind::Close),
+    ("And", Kind::And),
+    ("End", Kind::End),
+    ("SuitClass", Kind::Class(Class::Suit)),
+    ("MajorClass", Kind::Class(Class::Major)),
+    ("MinorClass", Kind::Class(Class::Minor)),
+];
+
+/// Whether the pattern fits the fault.
+pub(crate) fn fits(parts: &Parts, pattern: &str) -> bool {
+    let (before, _) = pattern.split_once('^').unwrap_or(("", pattern));
+    let mut back = before.split_ascii_whitespace().count();
+    let mut next: usize = 0;
+    for word in pattern.split_ascii_whitespace() {
+        if word == "^" {
+            continue;
+        }
+        let at = parts.fault.saturating_sub(back).saturating_add(next);
+        if !is_wanted(parts, at, word) {
+            return false;
+        }
+        next = next.saturating_add(if back > 0 { 0 } else { 1 });
+        back = back.saturating_sub(1);
+    }
+    true
+}
+
+/// Whether the part is what the word of a pattern wants.
+fn is_wanted(parts: &Parts, i: usize, word: &str) -> bool {
+    let (name, texts) = word.split_once(':').unwrap_or((word, ""));
+    for (known, want) in &WANTS {
+        if *known == name {
+            return is_met(parts, i, *want, texts);
+        }
+    }
+    is_among(parts.at(i), word)
+}
+
+/// Whether the part is one of the texts of a pattern.
+fn is_among(part: &[u8], texts: &str) -> bool {
+    let (texts, sign) = listed(texts);
+    for text in texts.split(sign) {
+        if is(part, text) || text == MEASURES && measure_word(part).is_some() {
+            return true;
+        }
+    }
+    false
+}
+
+/// Whether the part begins with one of the texts of a pattern.
+fn begins_with(part: &[u8], texts: &str) -> bool {
+    let (texts, sign) = listed(texts);
+    for text in texts.split(sign) {
+        if part.starts_with(text.as_bytes()) {
+            return true;
+        }
+    }
+    false
+}
+
+/// Whether it is so that a token of the kind may come at the fault.
+fn can_be(parts: &Parts, name: &str, is_so: bool) -> bool {
+    for (known, kind) in &KINDS {
+        if *known == name {
+            return parts.can.has(*kind) == is_so;
+        }
+    }
+    false
+}
+
+/// Whether what is wanted is so at the part.
+fn is_met(parts: &Parts, i: usize, want: Want, texts: &str) -> bool {
+    let part = parts.at(i);
+    match want {
+        Want::Can => can_be(parts, texts, true),
+        Want::Cannot => can_be(parts, texts, false),
+        Want::In => is_among(parts.call(), texts),
+        Want::NotIn => !is_among(parts.call(), texts),
+        Want::InCall => is_call(parts.call()),
+        Want::NotInCall => !is_call(parts.call()),
+        Want::InCount => is_count(parts.call()),
+        Want::Except => !is_among(part, texts),
+        Want::Named => is_among(parts.word.as_slice(), texts),
+        Want::Begins => begins_with(part, texts),
+        Want::Nothing => part.is_empty(),
+        Want::Any => true,
+        Want::Number => is_number(part),
+        Want::Digits => is_number(part) && part.len() == number(texts.as_bytes()),
+        Want::Length => is_number(part) || is(part, "x"),
+        Want::Relation => is_relation(part),
+        Want::Seat => is_seat(part),
+        Want::Suit => is_suit(part),
+        Want::Word => is_word(part),
+        Want::Known => token_of(part).is_some(),
+        Want::Name => is_name(part),
+        Want::InName => is_name(parts.call()),
+        Want::Later => is_name(part) && parts.given_at(part) > i,
+        Want::Own => is_name(part) && parts.is_in_own_brackets(i),
+        Want::Defined => parts.ends_definition(i),
+        Want::InPlainBody => parts.is_in_plain_body(),
+        Want::Ranks => is_word(part) && are_ranks(part),
+        Want::Count => is_count(part),
+        Want::NoValue => !is_number(part) && !is_count(part),
+        _ => is_met_beside(parts, i, want, texts),
+    }
+}
+
+/// Whether what is wanted is so at the part, by its letters or the parts before it.
+fn is_met_beside(parts: &Parts, i: usize, want: Want, texts: &str) -> bool {
+    let part = parts.at(i);
+    match want {
+        Want::Above => is_number(part) && number(parts.at(i.saturating_sub(2))) < number(part),
+        Want::Zeros => is_number(part) && without_zeros(part).len() <= 4,
+        Want::Follows => is_next(parts.at(i.saturating_sub(2)), part),
+        Want::Suffix => is(part, texts) && parts.is_suffix(i),
+        Want::Capital | Want::CapitalWord | Want::CapitalRanks => {
+            is_capital(part, parts.word.as_slice(), want)
+        }
+        _ => is_met_by_value(parts, i, want),
+    }
+}
+
+/// Whether the part has letters that aren't small, and is what is wanted once they are.
+fn is_capital(part: &[u8], word: &[u8], want: Want) -> bool {
+    if part == word {
+        return false;
+    }
+    match want {
+        Want::CapitalWord => token_of(word).is_some(),
+        Want::CapitalRanks => is_word(part) && are_ranks(word),
+        _ => is_word(part),
+    }
+}
+
+/// Whether what is wanted of a value or an amount is so at the part.
+fn is_met_by_value(parts: &Parts, i: usize, want: Want) -> bool {
+    match want {
+        Want::Value => parts.value(i).is_some(),
+        Want::Call => is(parts.at(i), ")") && parts.value(i).is_some(),
+        Want::Bracketed => is(before_value(parts, i), "(") && parts.value(i).is_some(),
+        Want::Chained => is_relation(before_value(parts, i)),
+        Want::Amount => amount_at(parts, i).is_some(),
+        Want::Counted => counted_at(parts, i).0 != "",
+        _ => false,
+    }
+}
+
+/// The part before the value that ends with this part.
+fn before_value<'t>(parts: &Parts<'t>, last: usize) -> &'t [u8] {
+    parts.at(parts.value_start(last).saturating_sub(1))
+}
+
+/// The digits without the zeros in front, but for the last.
+pub(crate) fn without_zeros(mut digits: &[u8]) -> &[u8] {
+    while let [b'0', rest @ ..] = digits {
+        if rest.is_empty() {
+            break;
+        }
+        digits = rest;
+    }
+    digits
+}
+
+/// Whether the second is the number after the first.
+fn is_next(first: &[u8], second: &[u8]) -> bool {
+    is_number(second) && number(first).saturating_add(1) == number(second)
+}

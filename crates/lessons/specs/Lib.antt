@@ -1,2 +1,0 @@
-pub mod Lessons
-pub mod internal

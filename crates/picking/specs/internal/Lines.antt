@@ -1,6 +1,0 @@
--- What is before the first byte of a line.
-use Rattle.picking.specs.Scans.{LineView}
-use Rattle.picking.specs.declared.line.Part.TheVariants.{Blank}
-
-abbrev pub start_of_line : LineView
-start_of_line = record { part = Blank; value = 0; digits = 0 }

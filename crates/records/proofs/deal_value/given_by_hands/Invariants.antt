@@ -1,5 +1,0 @@
-use Rattle.records.proofs.HandTexts.{GivenUpTo}
-use Rattle.records.proofs.deal_value.given_by_hands.Given as goal
-
-abbrev pub invariant-loop-hand : goal.invariant-loop-hand
-invariant-loop-hand l = GivenUpTo l.first l.hands l.hand l.given l.all

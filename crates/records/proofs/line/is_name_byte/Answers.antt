@@ -1,6 +1,0 @@
-use Rattle.std.proofs.Common.{◌∙◌, ap, arith, false, get_or}
-use Rattle.records.proofs.NameBytes.{in_table, table}
-use Rattle.records.proofs.line.is_name_byte.Goals as goal
-
-pub returns : goal.returns
-returns c = ap (λ i. get_or table i false) c.from.ensures ∙ in_table c.args.byte (omega arith)

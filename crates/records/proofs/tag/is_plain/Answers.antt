@@ -1,6 +1,0 @@
-use Rattle.std.proofs.Common.{◌∙◌, ap, arith, false, get_or}
-use Rattle.records.proofs.PlainBytes.{in_table, table}
-use Rattle.records.proofs.tag.is_plain.Goals as goal
-
-pub returns : goal.returns
-returns c = ap (λ i. get_or table i false) c.from.ensures ∙ in_table c.args.byte (omega arith)

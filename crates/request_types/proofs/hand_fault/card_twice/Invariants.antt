@@ -1,6 +1,0 @@
-use Rattle.std.proofs.Common.{ℕ, ◌<◌, ◌≤◌}
-use Rattle.request_types.specs.PredealtHands.{times_in}
-use Rattle.request_types.proofs.hand_fault.card_twice.Given as goal
-
-abbrev pub invariant-loop-number : goal.invariant-loop-number
-invariant-loop-number l = (k : ℕ) → k < l.number → times_in l.text k ≤ 1

@@ -1,6 +1,0 @@
-use Rattle.std.proofs.Common.{◌≡◌, ℕ, ◌<◌, get_or, true}
-use Rattle.request_types.specs.PredealtHands.{is_hand_byte}
-use Rattle.request_types.proofs.hand_fault.unread_place.Given as goal
-
-abbrev pub invariant-loop-place : goal.invariant-loop-place
-invariant-loop-place l = (k : ℕ) → k < l.place → is_hand_byte (get_or l.text k 0) ≡ true

@@ -1,5 +1,0 @@
-pub mod PredealtHands
-pub mod HandFaults
-pub mod HandRules
-pub mod Requests
-pub mod Defaults

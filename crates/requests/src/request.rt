@@ -1,0 +1,120 @@
+//! The requests: one variant for each subcommand.
+
+ghost use Rattle.std.specs.Prelude.{◌≤◌, ◌^◌};
+
+use crate::hands::PredealtHands;
+use crate::lessons::Lesson;
+use crate::look::Look;
+use crate::names::QuestionName;
+use crate::questions::Questions;
+use crate::search::Search;
+use crate::when::When;
+use boards::{Format, Style};
+
+/// What a person is told while a run lasts and when it has ended. Nothing else depends on it.
+#[derive(Clone, Copy)]
+pub struct Notices {
+    /// Whether the boards and the candidates are counted for a report.
+    pub report: bool,
+    /// When the counts are shown while the run lasts.
+    pub progress: When,
+    /// When lines that help a person are below a refusal.
+    pub hints: When,
+}
+
+/// The first `count` values of a seed, at most 2^40.
+#[derive(Clone, Copy)]
+pub struct StreamRequest {
+    pub seed: u32,
+    pub count: u64,
+    ghost few: { count ≤ 2 ^ 40 },
+}
+
+/// What is asked for.
+#[derive(Clone, Copy)]
+pub enum Request<'a> {
+    /// The boards of the accepted candidates.
+    Make {
+        search: Search<'a>,
+        look: Look<'a>,
+        /// Whether the input tells the boards' tricks, a line for each.
+        tricks: bool,
+        notices: Notices,
+    },
+    /// The numbers of the accepted candidates.
+    Find {
+        search: Search<'a>,
+        notices: Notices,
+    },
+    /// A table of what the accepted deals answer.
+    Count {
+        search: Search<'a>,
+        questions: Questions<'a>,
+        style: Style,
+        notices: Notices,
+    },
+    /// The boards of the candidates whose numbers the input gives.
+    Pick {
+        seed: u32,
+        hands: PredealtHands<'a>,
+        look: Look<'a>,
+        /// Whether each line tells the board's tricks after its number.
+        tricks: bool,
+        hints: When,
+    },
+    /// The boards of the games that the input has. Of the look the format, the hands that are
+    /// written and the labels count.
+    Show {
+        look: Look<'a>,
+        hints: When,
+    },
+    /// The page of the language.
+    Conditions,
+    /// What is told of a lesson, or without one the list of all.
+    Lessons(Option<Lesson>),
+    /// A seed that the first bytes of the input draw.
+    Seed,
+    Stream(StreamRequest),
+}
+
+impl<'a> Request<'a> {
+    /// Returns the search and the look of the request, if it has a look: the search tries no
+    /// candidates where none is asked for.
+    pub fn plans(&self) -> Option<(Search<'a>, Look<'a>)> {
+        match self {
+            Request::Make { search, look, .. } => Some((*search, *look)),
+            Request::Find { search, .. } | Request::Count { search, .. } => {
+                Some((*search, Look::plain(Format::Numbers)))
+            }
+            Request::Pick {
+                seed,
+                hands,
+                look,
+                ..
+            } => Some((Search::none(*seed, *hands), *look)),
+            Request::Show { look, .. } => { Some((Search::none(0, PredealtHands::none()), *look)) }
+            Request::Conditions | Request::Lessons(_) | Request::Seed | Request::Stream(_) => None,
+        }
+    }
+
+    /// Returns the text of this question, if the request has it.
+    pub fn question(&self, name: QuestionName) -> Option<&'a str> {
+        match self {
+            Request::Count { questions, .. } => questions.text(name),
+            _ => None,
+        }
+    }
+
+    /// Returns when lines that help a person are below a refusal.
+    pub fn hints(&self) -> When {
+        match self {
+            Request::Make { notices, .. }
+            | Request::Find { notices, .. }
+            | Request::Count { notices, .. } => notices.hints,
+            Request::Pick { hints, .. } | Request::Show { hints, .. } => *hints,
+            Request::Conditions | Request::Lessons(_) | Request::Seed | Request::Stream(_) => {
+                When::Auto
+            }
+        }
+    }
+}

@@ -1,0 +1,15 @@
+//! Conditions that no deal meets.
+
+mod by_suit;
+mod counts;
+mod facts;
+mod held;
+mod never;
+mod refuted;
+mod shapes;
+mod splits;
+mod torn;
+mod values;
+mod wholes;
+
+pub use never::{is_never, is_never_met};

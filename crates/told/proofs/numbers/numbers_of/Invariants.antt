@@ -1,9 +1,0 @@
-use Rattle.std.proofs.Common.{◌≤◌, take}
-use Rattle.picking.specs.Scans.{HasScanned}
-use Rattle.told.proofs.numbers.numbers_of.Given as goal
-
-abbrev pub invariant-loop-byte : goal.invariant-loop-byte
-invariant-loop-byte l = record {
-  scanned : HasScanned l.scanner (take l.byte-index l.text) l.numbers.items;
-  lines : l.scanner.lines ≤ l.byte-index;
-}

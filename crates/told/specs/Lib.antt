@@ -1,4 +1,0 @@
-pub mod Lines
-pub mod Told
-pub mod Picked
-pub mod internal

@@ -1,3 +1,0 @@
--- What only bodies and lemmas use: no public clause names any of it.
-pub mod Telling
-pub mod Picking

@@ -1,9 +1,0 @@
-pub mod Suits
-pub mod Facts
-pub mod Values
-pub mod Refuted
-pub mod Splits
-pub mod Held
-pub mod Wholes
-pub mod Torn
-pub mod Never
