@@ -1,7 +1,9 @@
 -- What `Candidates` goes through: every step-th candidate of a seed, dealt around fixed cards.
-use Rattle.std.specs.Prelude.{◌≡◌, ℕ, ◌*◌, ◌≤◌, List, Option}
+use Rattle.std.specs.Prelude.{◌≡◌, ℕ, ◌+◌, ◌*◌, ◌≤◌, Bool, List, Option}
 use Rattle.cards.specs.declared.seat.Seat.{Seat}
 use Rattle.cards.specs.Candidates.{state_before}
+use Rattle.cards.specs.Fixed.{candidate_around}
+use Rattle.cards.specs.Hands.{hand_of}
 
 -- what contracts see of `Candidates`: the state, how many draws it is from one candidate to the
 -- next, the fixed cards, and how many hands of the next candidate are dealt: West's is the first,
@@ -25,3 +27,23 @@ pub record GoesOnAt (candidates : CandidatesView) (around : List (Option Seat)) 
 pub record Source : Type 0 where
   pub seed : ℕ
   pub fixed : List (Option Seat)
+
+-- wherever the old one goes on, the new one goes on with the candidate after it
+abbrev pub Moves : CandidatesView → CandidatesView → Type 0
+Moves old new = (fixed : List (Option Seat)) (seed number step : ℕ)
+    → GoesOnAt old fixed seed number step → GoesOnAt new fixed seed (number + step) step
+
+-- wherever the old one goes on, the new one goes on with the same candidate
+abbrev pub Stays : CandidatesView → CandidatesView → Type 0
+Stays old new = (fixed : List (Option Seat)) (seed number step : ℕ)
+    → GoesOnAt old fixed seed number step → GoesOnAt new fixed seed number step
+
+-- the deal is that of the candidate at which it goes on
+abbrev pub GivesDeal : CandidatesView → List Seat → Type 0
+GivesDeal old deal = (fixed : List (Option Seat)) (seed number step : ℕ)
+    → GoesOnAt old fixed seed number step → deal ≡ candidate_around fixed seed number
+
+-- the hand is the seat's of that deal
+abbrev pub GivesHand : CandidatesView → Seat → List Bool → Type 0
+GivesHand old seat hand = (fixed : List (Option Seat)) (seed number step : ℕ)
+    → GoesOnAt old fixed seed number step → hand ≡ hand_of (candidate_around fixed seed number) seat

@@ -1,12 +1,10 @@
 //! The candidates of a seed, from one on: deal after deal, with a jump over those between.
 
-ghost use Rattle.std.specs.Prelude.{◌≡◌, ℕ, List, Option, ◌+◌, ◌-◌, ◌<◌, ◌≤◌, ◌^◌};
-ghost use Rattle.cards.specs.CandidateWalks.{GoesOnAt};
+ghost use Rattle.std.specs.Prelude.{◌≡◌, ◌+◌, ◌-◌, ◌<◌, ◌≤◌, ◌^◌};
+ghost use Rattle.cards.specs.CandidateWalks.{GivesDeal, GivesHand, GoesOnAt, Moves, Stays};
 ghost use Rattle.cards.specs.Deals.{IsPartition};
-ghost use Rattle.cards.specs.Fixed.{candidate_around, none_fixed};
-ghost use Rattle.cards.specs.Hands.{hand_of};
+ghost use Rattle.cards.specs.Fixed.{none_fixed};
 ghost use Rattle.cards.specs.declared.seat.Seat.TheVariants.{South, West};
-ghost use Rattle.cards.specs.declared.seat.Seat.{Seat as ASeat};
 
 use crate::around::Around;
 use crate::{Deal, Fixed, Hand};
@@ -95,13 +93,9 @@ impl Candidates {
     /// The next candidate's deal.
     #[inline]
     pub fn next(&mut self) -> Deal
-        ensures deal { (fixed : List (Option ASeat)) (seed number step : ℕ)
-            → GoesOnAt self.old fixed seed number step
-            → result ≡ candidate_around fixed seed number }
+        ensures deal { GivesDeal self.old result }
         ensures partition { IsPartition result }
-        ensures moved { (fixed : List (Option ASeat)) (seed number step : ℕ)
-            → GoesOnAt self.old fixed seed number step
-            → GoesOnAt self.new fixed seed (number + step) step }
+        ensures moved { Moves self.old self.new }
     {
         // In one piece, which is quicker than hand by hand.
         let deal = self.around.draw(&mut self.start);
@@ -114,12 +108,8 @@ impl Candidates {
     /// anew.
     #[inline(always)]
     pub fn deal_west(&mut self) -> Hand
-        ensures hand { (fixed : List (Option ASeat)) (seed number step : ℕ)
-            → GoesOnAt self.old fixed seed number step
-            → result ≡ hand_of (candidate_around fixed seed number) West }
-        ensures stays { (fixed : List (Option ASeat)) (seed number step : ℕ)
-            → GoesOnAt self.old fixed seed number step
-            → GoesOnAt self.new fixed seed number step }
+        ensures hand { GivesHand self.old West result }
+        ensures stays { Stays self.old self.new }
         ensures dealt { self.new.dealt ≡ 1 }
     {
         let mut generator = self.start;
@@ -134,12 +124,8 @@ impl Candidates {
     #[inline(always)]
     pub fn deal_south(&mut self) -> Hand
         requires { self.old.dealt ≡ 1 }
-        ensures hand { (fixed : List (Option ASeat)) (seed number step : ℕ)
-            → GoesOnAt self.old fixed seed number step
-            → result ≡ hand_of (candidate_around fixed seed number) South }
-        ensures stays { (fixed : List (Option ASeat)) (seed number step : ℕ)
-            → GoesOnAt self.old fixed seed number step
-            → GoesOnAt self.new fixed seed number step }
+        ensures hand { GivesHand self.old South result }
+        ensures stays { Stays self.old self.new }
         ensures dealt { self.new.dealt ≡ 2 }
     {
         let mut generator = self.generator;
@@ -155,13 +141,9 @@ impl Candidates {
     #[inline(always)]
     pub fn finish(&mut self) -> Deal
         requires { self.old.dealt ≡ 2 }
-        ensures deal { (fixed : List (Option ASeat)) (seed number step : ℕ)
-            → GoesOnAt self.old fixed seed number step
-            → result ≡ candidate_around fixed seed number }
+        ensures deal { GivesDeal self.old result }
         ensures partition { IsPartition result }
-        ensures moved { (fixed : List (Option ASeat)) (seed number step : ℕ)
-            → GoesOnAt self.old fixed seed number step
-            → GoesOnAt self.new fixed seed (number + step) step }
+        ensures moved { Moves self.old self.new }
         ensures dealt { self.new.dealt ≡ 0 }
     {
         let mut generator = self.generator;
@@ -177,9 +159,7 @@ impl Candidates {
     /// Goes on to the candidate after the next, which nobody needs any more.
     #[inline(always)]
     pub fn skip(&mut self)
-        ensures moved { (fixed : List (Option ASeat)) (seed number step : ℕ)
-            → GoesOnAt self.old fixed seed number step
-            → GoesOnAt self.new fixed seed (number + step) step }
+        ensures moved { Moves self.old self.new }
         ensures dealt { self.new.dealt ≡ 0 }
     {
         self.start = self.stride.apply(&self.start);

@@ -3,8 +3,7 @@
 //! `run_in` makes the stop flag, `start_and_write` the lanes and the workers, and `write_all` has
 //! the text written (`writer.rt`), joins the workers, and reports how that ended.
 
-ghost use Rattle.std.specs.Prelude.{◌≡◌, ◌-◌, ◌^◌, ◌<◌, ◌≤◌, [], false, All, IfOk};
-ghost use Rattle.std.specs.Prelude.{map, vec_len};
+ghost use Rattle.std.specs.Prelude.{◌≡◌, ◌-◌, ◌^◌, ◌<◌, ◌≤◌, [], IfOk, vec_len};
 ghost use Rattle.conditions.specs.Form.{Form};
 ghost use Rattle.plans.specs.declared.cause.Cause.TheVariants.{Memory};
 ghost use Rattle.dealrun.specs.Headline.{TakesWhatIsOwed, WritesTextIn};
@@ -12,7 +11,7 @@ ghost use Rattle.dealrun.specs.Interrupted.{FailsAtOutput, StandsIn};
 ghost use Rattle.dealrun.specs.Interrupted.{report_of};
 ghost use Rattle.plans.specs.Text.{end_of};
 ghost use Rattle.dealrun.specs.internal.Ends.{EndsRun};
-ghost use Rattle.dealrun.specs.internal.Handles.{owed_by};
+ghost use Rattle.dealrun.specs.internal.Handles.{HaveLanes, owed_by};
 ghost use Rattle.dealrun.specs.internal.Joins.{Owes};
 
 use crate::join::{Written, cause_of, join_all};
@@ -218,9 +217,7 @@ fn write_all<R: Threads + Wait, N: Notation, S: Sink>(
     requires printed { N.has_printed notation.old [] }
     requires counts { (vec_len handles ≡ plan.now.workers) × (vec_len lanes ≡ plan.now.workers) }
     requires workers { (0 < plan.now.workers) × (plan.now.workers ≤ 16) }
-    requires rings { map (λ h. h.promise.lane.value.ring) handles.items
-        ≡ map (λ l. l.ring) lanes.items }
-    requires idle { All (λ l. (l.taken ≡ []) × (l.settled ≡ false)) lanes.items }
+    requires lanes { HaveLanes handles.items lanes.items }
     ensures layout { N.layout notation.new ≡ N.layout notation.old }
     ensures ends { (form : Form)
         → Owes plan.now form (owed_by handles.items)

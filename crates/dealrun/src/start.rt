@@ -1,10 +1,11 @@
 //! The workers of a run, before and when they start.
 
-ghost use Rattle.std.specs.Prelude.{◌≡◌, ◌+◌, ◌<◌, ◌≤◌, ℕ, [], All, IfOk, IfSome, map, take};
+ghost use Rattle.std.specs.Prelude.{◌≡◌, ◌<◌, ◌≤◌, [], All, IfOk, IfSome, map, take};
 ghost use Rattle.std.specs.Prelude.{vec_len, vec_capacity, false, true};
 ghost use Rattle.std.specs.List.{range_with_len};
 ghost use Rattle.lanes.specs.Jobs.{verdicts_around, verdicts_for};
 ghost use Rattle.lanes.specs.Work.{Ends};
+ghost use Rattle.dealrun.specs.internal.Handles.{IsIdle};
 
 use conditions::Cond;
 use lanes::{Gate, JobAround, LaneIn, LaneOut, Pace, WorkEnd, lane_in_blocks, work_around};
@@ -80,7 +81,7 @@ fn assign<R: Clone, G: Drop>(
     ensures job { IfOk result (λ r.
         verdicts_around r.0.job ≡ verdicts_for plan.now cond.now worker) }
     ensures ring { IfOk result (λ r. r.0.lane.ring ≡ r.1.ring) }
-    ensures taker { IfOk result (λ r. (r.1.taken ≡ []) × (r.1.settled ≡ false)) }
+    ensures taker { IfOk result (λ r. IsIdle r.1) }
 {
     let job = JobAround::of(plan, cond, worker)?;
     let Ok((lane, taker)) = lane_in_blocks(alloc, plan.capacity(), pace) else {
@@ -113,7 +114,7 @@ pub(crate) fn assign_all<R: Threads + Clone, G: Drop>(
         ≡ map (verdicts_for plan.now cond.now) (range_with_len 0 plan.now.workers)) }
     ensures rings { IfOk result (λ r. map (λ a. a.lane.ring) r.0.items
         ≡ map (λ l. l.ring) r.1.items) }
-    ensures idle { IfOk result (λ r. All (λ l. (l.taken ≡ []) × (l.settled ≡ false)) r.1.items) }
+    ensures idle { IfOk result (λ r. All IsIdle r.1.items) }
 {
     let pace = pace_of(rt, plan);
     let mut assignments = Vec::new(alloc);
@@ -164,7 +165,6 @@ pub(crate) fn start_all<
     requires room { vec_len assignments ≤ vec_capacity handles.old }
     ensures all { result ≡ true → vec_len handles.new ≡ vec_len assignments }
     ensures not_all { result ≡ false → vec_len handles.new < vec_len assignments }
-    ensures len { vec_len handles.new ≤ vec_len assignments }
     ensures jobs { map (λ h. verdicts_around h.promise.job.value) handles.new.items
         ≡ take (vec_len handles.new) (map (λ a. verdicts_around a.job) assignments.items) }
     ensures rings { map (λ h. h.promise.lane.value.ring) handles.new.items

@@ -26,14 +26,14 @@ pub(crate) struct Progress {
 }
 
 impl Progress {
-    ghost use Rattle.std.specs.Prelude.{◌≡◌, ◌-◌, ◌+◌, ◌<◌, ◌^◌, ◌++◌, ◌∷◌, [], cond, true};
+    ghost use Rattle.std.specs.Prelude.{◌≡◌, ◌-◌, ◌+◌, ◌<◌, ◌^◌, cond, true};
     ghost use Rattle.std.specs.Prelude.{List, OnErr, OnOk};
     ghost use Rattle.sinks.specs.Appended.{append_known, AppendsPart};
     ghost use Rattle.lanes.specs.Slots.{verdict_in};
     ghost use Rattle.sinks.specs.Sinks.{CountsFault};
-    ghost use Rattle.dealrun.specs.internal.Writing.{board_text};
+    ghost use Rattle.dealrun.specs.internal.Writing.{CountsOne, board_text, text_of_verdict};
+    ghost use Rattle.dealrun.specs.internal.Writing.{with_verdict};
     ghost use Rattle.boards.specs.declared.board.Board.{Board};
-    ghost use Rattle.plans.specs.Text.{board_of};
 
     /// Counts a verdict that was taken, and writes its board if it is accepted. Only then it asks
     /// for the deal.
@@ -49,20 +49,16 @@ impl Progress {
         requires taken { self.old.taken < 2 ^ 40 }
         requires faults { S.faults sink.old < 2 ^ 64 - 1 }
         ensures layout { N.layout notation.new ≡ N.layout notation.old }
-        ensures taken { (self.new.taken ≡ self.old.taken + 1)
-            × (self.new.turns.workers ≡ self.old.turns.workers) }
+        ensures taken { CountsOne self.old self.new }
         ensures faults { CountsFault (S.faults sink.old) (S.faults sink.new) result }
         ensures boards { OnOk result (self.new.boards
             ≡ cond (verdict_in slot.now).accepted (self.old.boards + 1) self.old.boards) }
         ensures bytes { OnOk result (S.bytes sink.new ≡ append_known (S.bytes sink.old)
-            (cond (verdict_in slot.now).accepted
-            (board_text (N.layout notation.old) plan.now self.old.boards
-            (verdict_in slot.now)) [])) }
-        ensures printed { OnOk result ((before : List Board)
-            → N.has_printed notation.old before
-            → N.has_printed notation.new (cond (verdict_in slot.now).accepted
-            (before ++ board_of plan.now self.old.boards
-            (verdict_in slot.now).number (verdict_in slot.now).deal ∷ []) before)) }
+            (text_of_verdict (N.layout notation.old) plan.now self.old.boards
+            (verdict_in slot.now))) }
+        ensures printed { OnOk result ((before : List Board) → N.has_printed notation.old before
+            → N.has_printed notation.new
+            (with_verdict plan.now self.old.boards (verdict_in slot.now) before)) }
         ensures broken { OnErr result (((verdict_in slot.now).accepted ≡ true)
             × (self.new.boards ≡ self.old.boards)
             × AppendsPart (S.bytes sink.old) (S.bytes sink.new)
@@ -82,8 +78,7 @@ impl Progress {
     #[inline(always)]
     fn pass(&mut self)
         requires { self.old.taken < 2 ^ 40 }
-        ensures taken { (self.new.taken ≡ self.old.taken + 1)
-            × (self.new.turns.workers ≡ self.old.turns.workers) }
+        ensures taken { CountsOne self.old self.new }
         ensures boards { self.new.boards ≡ self.old.boards }
     {
         self.turns.advance();
@@ -117,16 +112,14 @@ pub(crate) struct Writer {
 
 impl Writer {
     ghost use Rattle.std.specs.Prelude.{◌≡◌, ◌≢◌, ◌-◌, ◌^◌, ◌<◌, ◌≤◌, ◌↔◌, [], ℕ, IsTrue, List};
-    ghost use Rattle.std.specs.Prelude.{MatchResult, OnOk, Option, Some, vec_len};
+    ghost use Rattle.std.specs.Prelude.{OnOk, Option, Some, vec_len};
     ghost use Rattle.boards.specs.declared.board.Board.{Board};
     ghost use Rattle.boards.specs.Layouts.{Layout};
     ghost use Rattle.conditions.specs.Form.{Form};
-    ghost use Rattle.dealrun.specs.Interrupted.{InterruptedIn};
-    ghost use Rattle.plans.specs.declared.cause.Cause.TheVariants.{Output};
     ghost use Rattle.sinks.specs.Sinks.{CountsFault};
-    ghost use Rattle.dealrun.specs.internal.Ends.{Closes};
-    ghost use Rattle.dealrun.specs.internal.Writing.{BrokeOff, FaultsBeside, GoesOn, HasEnough};
-    ghost use Rattle.dealrun.specs.internal.Writing.{IsFresh, KeepsLanes, Resumes, WroteBeside};
+    ghost use Rattle.dealrun.specs.internal.Ends.{Finishes};
+    ghost use Rattle.dealrun.specs.internal.Writing.{FaultsBeside, Goes, GoesOn, HasEnough};
+    ghost use Rattle.dealrun.specs.internal.Writing.{IsFresh, KeepsLanes, Resumes, WritesBeside};
 
     /// The writer of a plan's run, which took no verdict from these lanes yet.
     pub(crate) fn new(plan: &Plan, lanes: Vec<LaneOut>) -> Writer
@@ -193,10 +186,8 @@ impl Writer {
         ensures wrote { (base : Option (List ℕ))
             → GoesOn (N.layout notation.old) (N.has_printed notation.old) self.old base
             (S.bytes sink.old)
-            → MatchResult result
-            (λ _. GoesOn (N.layout notation.old) (N.has_printed notation.new) self.new base
-            (S.bytes sink.new))
-            (λ _. BrokeOff (N.layout notation.old) self.new base (S.bytes sink.new)) }
+            → Goes (N.layout notation.old) (N.has_printed notation.new) self.new base result
+            (S.bytes sink.new) }
         ensures end { OnOk result ((base : Option (List ℕ)) (form : Form)
             → Resumes (N.layout notation.old) (N.has_printed notation.old) form self.old base
             (S.bytes sink.old)
@@ -242,11 +233,8 @@ impl Writer {
         ensures lanes { KeepsLanes self.old.lanes.items self.new.lanes.items }
         ensures layout { N.layout notation.new ≡ N.layout notation.old }
         ensures faults { CountsFault (S.faults sink.old) (S.faults sink.new) result }
-        ensures wrote { MatchResult result
-            (λ _. GoesOn (N.layout notation.old) (N.has_printed notation.new) self.new
-            (S.bytes sink.old) (S.bytes sink.new))
-            (λ _. BrokeOff (N.layout notation.old) self.new
-            (S.bytes sink.old) (S.bytes sink.new)) }
+        ensures wrote { Goes (N.layout notation.old) (N.has_printed notation.new) self.new
+            (S.bytes sink.old) result (S.bytes sink.new) }
     {
         put_all(sink, notation.header())?;
         self.write_boards(rt, notation, sink, stop)
@@ -267,9 +255,8 @@ impl Writer {
         ensures lanes { KeepsLanes self.old.lanes.items self.new.lanes.items }
         ensures layout { N.layout notation.new ≡ N.layout notation.old }
         ensures faults { FaultsBeside result (S.faults sink.old) (S.faults sink.new) }
-        ensures wrote { WroteBeside (N.layout notation.old) (N.has_printed notation.new)
-            self.new.plan result self.new.lanes.items self.new.progress.taken
-            self.new.progress.boards (S.bytes sink.old) (S.bytes sink.new) }
+        ensures wrote { WritesBeside (N.layout notation.old) (N.has_printed notation.new)
+            self.new result (S.bytes sink.old) (S.bytes sink.new) }
     {
         match self.write_header_and_boards(rt, notation, sink, stop) {
             Ok(()) if self.is_full() => Written::Full,
@@ -294,11 +281,8 @@ impl Writer {
         ensures ends { (base : Option (List ℕ)) (form : Form)
             → Resumes (N.layout notation.old) (N.has_printed notation.old) form self.old base
             (S.bytes sink.old)
-            → MatchResult result
-            (λ _. Closes (N.layout notation.old) self.old.plan form self.new.lanes.items
-            self.new.progress.boards self.new.progress.taken base (S.bytes sink.new))
-            (λ _. InterruptedIn (N.layout notation.old) self.old.plan form Output
-            self.new.lanes.items self.new.progress.boards base (S.bytes sink.new)) }
+            → Finishes (N.layout notation.old) self.old.plan form self.new base result
+            (S.bytes sink.new) }
     {
         self.write_boards(rt, notation, sink, stop)?;
         // Its contract says that no seat has more than thirteen fixed cards: each deal is a

@@ -8,7 +8,7 @@ ghost use Rattle.cards.specs.declared.seat.Seat.{Seat as ASeat};
 ghost use Rattle.screens.specs.Completions.{IsCompletion};
 ghost use Rattle.conditions.specs.Form.{Form};
 ghost use Rattle.conditions.specs.Meaning.{holds};
-ghost use Rattle.lanes.specs.internal.Screens.{IsScreenOf};
+ghost use Rattle.lanes.specs.internal.Screens.{IsScreenOf, KeepsScreen};
 
 use crate::profit::Profit;
 use cards::{Fixed, Hand};
@@ -65,9 +65,7 @@ impl Screening {
     /// Whether West's hand alone tells that the candidate is rejected. `false` says nothing.
     #[inline(always)]
     pub(crate) fn gives_up_west(&mut self, west: &Hand) -> bool
-        ensures same { (form : Form) (fixed : List (Option ASeat))
-            → IsScreenOf self.old form fixed
-            → IsScreenOf self.new form fixed }
+        ensures same { KeepsScreen self.old self.new }
         ensures rejected { (form : Form) (fixed : List (Option ASeat)) (deal : List ASeat)
             → IsTrue result
             → IsScreenOf self.old form fixed
@@ -88,9 +86,7 @@ impl Screening {
     /// Whether West's and South's hands tell that the candidate is rejected. `false` says nothing.
     #[inline(always)]
     pub(crate) fn gives_up_south(&mut self, west: &Hand, south: &Hand) -> bool
-        ensures same { (form : Form) (fixed : List (Option ASeat))
-            → IsScreenOf self.old form fixed
-            → IsScreenOf self.new form fixed }
+        ensures same { KeepsScreen self.old self.new }
         ensures rejected { (form : Form) (fixed : List (Option ASeat)) (deal : List ASeat)
             → IsTrue result
             → IsScreenOf self.old form fixed

@@ -9,6 +9,8 @@ use Rattle.dealrun.specs.Interrupted.{InterruptedIn, StandsCompleteIn, footer_ta
 use Rattle.dealrun.specs.Headline.{TakesWhatIsOwed, WritesTextIn}
 use Rattle.dealrun.specs.declared.runs.Counted.{Counted}
 use Rattle.dealrun.specs.declared.runs.RunFault.{RunFault}
+use Rattle.dealrun.specs.declared.writer.Writer.{Writer}
+use Rattle.plans.specs.declared.cause.Cause.TheVariants.{Output}
 
 -- the whole text was written; this many candidates are needed
 pub record Closes (layout : Layout) (plan : Planned) (form : Form) (lanes : List OutView)
@@ -19,6 +21,13 @@ pub record Closes (layout : Layout) (plan : Planned) (form : Form) (lanes : List
       old new
   pub candidates_are : candidates ≡ end_of plan form
   pub few : (boards ≤ candidates) × (candidates ≤ plan.count)
+
+-- the rest was written, or the sink failed
+abbrev pub Finishes : {T E : Type 0} → Layout → Planned → Form → Writer → Option (List ℕ)
+    → Result T E → Option (List ℕ) → Type 0
+Finishes layout plan form w old result new = MatchResult result
+    (λ _. Closes layout plan form w.lanes.items w.progress.boards w.progress.taken old new)
+    (λ _. InterruptedIn layout plan form Output w.lanes.items w.progress.boards old new)
 
 -- a run that ended, with its sink's bytes before and after
 abbrev pub EndsRun : Layout → Planned → Form → Result Counted RunFault

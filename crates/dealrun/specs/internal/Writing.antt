@@ -1,6 +1,7 @@
 -- How far a writer has come that takes verdicts in turn and writes the boards of the accepted ones.
 use Rattle.std.specs.Prelude.{ℕ, ◌≡◌, ◌≢◌, ◌+◌, ◌<◌, ◌≤◌, ◌⊎◌, List, [], length, map, All, Option}
-use Rattle.std.specs.Prelude.{Some, None, if◌then◌else◌, slice_index_or}
+use Rattle.std.specs.Prelude.{Some, None, MatchResult, Result, cond, if◌then◌else◌, slice_index_or}
+use Rattle.std.specs.Prelude.{◌++◌, ◌∷◌}
 use Rattle.std.specs.Option.{ForSome}
 use Rattle.boards.specs.declared.board.Board.{Board}
 use Rattle.boards.specs.Layouts.{Layout}
@@ -17,6 +18,7 @@ use Rattle.dealrun.specs.Interrupted.{BreaksOffLastPiece}
 use Rattle.dealrun.specs.internal.Joins.{AllParts, AllWhole}
 use Rattle.dealrun.specs.declared.join.Written.{Written}
 use Rattle.dealrun.specs.declared.join.Written.TheVariants.{Failed, Full, Open}
+use Rattle.dealrun.specs.declared.writer.Progress.{Progress}
 use Rattle.dealrun.specs.declared.writer.Writer.{Writer}
 
 -- what was taken from each lane
@@ -27,6 +29,20 @@ taken_lists lanes = map (λ l. l.taken) lanes
 abbrev pub board_text : Layout → Planned → ℕ → Verdict → List ℕ
 board_text layout plan boards verdict =
     layout.board (board_of plan boards verdict.number verdict.deal)
+
+-- the text that a verdict asks for: its board's, if it is accepted
+abbrev pub text_of_verdict : Layout → Planned → ℕ → Verdict → List ℕ
+text_of_verdict layout plan boards verdict =
+    cond verdict.accepted (board_text layout plan boards verdict) []
+
+-- these boards, and that of a verdict, if it is accepted
+abbrev pub with_verdict : Planned → ℕ → Verdict → List Board → List Board
+with_verdict plan boards verdict before = cond verdict.accepted
+    (before ++ board_of plan boards verdict.number verdict.deal ∷ []) before
+
+-- one verdict more was taken
+abbrev pub CountsOne : Progress → Progress → Type 0
+CountsOne old new = (new.taken ≡ old.taken + 1) × (new.turns.workers ≡ old.turns.workers)
 
 -- what the first m verdicts print, without a footer
 abbrev pub printed : Layout → Planned → List (List Verdict) → ℕ → List ℕ
@@ -94,6 +110,12 @@ abbrev pub BrokeOff : Layout → Writer → Option (List ℕ) → Option (List �
 BrokeOff layout w =
     WriterBrokeOff layout w.plan w.lanes.items w.progress.taken w.progress.boards
 
+-- the writer goes on, or broke off if the sink failed
+abbrev pub Goes : {T E : Type 0} → Layout → (List Board → Type 0) → Writer → Option (List ℕ)
+    → Result T E → Option (List ℕ) → Type 0
+Goes layout has_printed w old result new = MatchResult result
+    (λ _. GoesOn layout has_printed w old new) (λ _. BrokeOff layout w old new)
+
 -- so much is taken that no more is needed
 abbrev pub HasEnough : Writer → Type 0
 HasEnough w =
@@ -108,6 +130,11 @@ WroteBeside layout has_printed plan Full lanes m boards old new =
     WriterSoFar layout has_printed plan lanes m boards old new × (plan.limit ≡ Some boards)
 WroteBeside layout has_printed plan Open lanes m boards old new =
     WriterSoFar layout has_printed plan lanes m boards old new × (plan.limit ≢ Some boards)
+
+abbrev pub WritesBeside : Layout → (List Board → Type 0) → Writer → Written
+    → Option (List ℕ) → Option (List ℕ) → Type 0
+WritesBeside layout has_printed w written = WroteBeside layout has_printed w.plan written
+    w.lanes.items w.progress.taken w.progress.boards
 
 -- the sink failed once, or not at all
 abbrev pub FaultsBeside : Written → ℕ → ℕ → Type 0

@@ -1,12 +1,14 @@
 -- A tag at the beginning of a line, in the form that most programs write.
 use Rattle.std.specs.Prelude.{◌≡◌, ◌<◌, ◌≤◌, ℕ, ◌+◌, ◌==◌, ◌||◌, Bool, true, false, not}
-use Rattle.std.specs.Prelude.{List, [], ◌∷◌, ◌++◌, Option, drop, length}
+use Rattle.std.specs.Prelude.{List, [], ◌∷◌, ◌++◌, Option, Result, IfErr, IfOk, drop, length}
 use Rattle.std.specs.List.{list_all}
 use Rattle.input.specs.declared.records.game.Told.{Told}
 use Rattle.input.specs.Kinds.{kind_of}
 use Rattle.input.specs.Places.{Place, is_name_byte}
 use Rattle.input.specs.RecordScans.{IsWithin, spells_from}
-use Rattle.input.specs.Texts.{after, list_of}
+use Rattle.input.specs.Texts.{after, list_of, refused_with}
+use Rattle.input.specs.declared.records.fault.RefusedRecord.{RefusedRecord}
+use Rattle.input.specs.internal.Endings.{told_if}
 use Rattle.input.specs.declared.records.line.Part.TheVariants.{Open}
 use Rattle.input.specs.declared.records.reading.Reading.{Reading}
 use Rattle.input.specs.declared.records.scanner.Scanner.{Scanner}
@@ -52,6 +54,16 @@ after_tag name value = record {
 
 abbrev pub with_place : Place → Reading → Reading
 with_place p s = record s { line = p }
+
+-- the byte was read, and the board came of it if a game ends with it
+abbrev pub ReadsByte : Scanner → Scanner → ℕ → Told → Result Bool RefusedRecord → Type 0
+ReadsByte s t byte told r = IfOk r (λ ended. (rest : List ℕ) → spells_from s (byte ∷ rest)
+    ≡ after (list_of (told_if ended told)) (spells_from t rest))
+
+-- with this byte the text is refused, whatever comes after
+abbrev pub RefusesByte : Scanner → ℕ → Result Bool RefusedRecord → Type 0
+RefusesByte s byte r =
+    IfErr r (λ e. (rest : List ℕ) → spells_from s (byte ∷ rest) ≡ refused_with e)
 
 -- these many bytes were read, and the board came of them
 pub record Reads (s t : Scanner) (bytes : List ℕ) (count : ℕ) (board : Option Told) : Type 0 where

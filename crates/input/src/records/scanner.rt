@@ -6,9 +6,10 @@ ghost use Rattle.input.specs.NumberTexts.{starts_with_lf};
 ghost use Rattle.input.specs.Kinds.{kind_of};
 ghost use Rattle.input.specs.RecordScans.{IsWithin, spells_from};
 ghost use Rattle.input.specs.Texts.{InRoom};
-ghost use Rattle.input.specs.Texts.{after, list_of, refused_with, spelled};
+ghost use Rattle.input.specs.Texts.{list_of, refused_with, spelled};
 ghost use Rattle.input.specs.internal.Endings.{told_if};
-ghost use Rattle.input.specs.internal.TagTexts.{IsStart, IsTag, Reads, tag_text};
+ghost use Rattle.input.specs.internal.TagTexts.{IsStart, IsTag, Reads, ReadsByte, RefusesByte};
+ghost use Rattle.input.specs.internal.TagTexts.{tag_text};
 
 use crate::records::fault::RefusedRecord;
 use crate::records::game::Told;
@@ -37,11 +38,8 @@ impl Scanner {
     /// Takes the end of a line. Returns whether it ends a game with a board, which is then told.
     fn end_line(&mut self, told: &mut Told) -> Result<bool, RefusedRecord>
         requires { IsWithin self.old (2 ^ 60) }
-        ensures goes_on { IfOk result (λ ended. (rest : List ℕ)
-            → spells_from self.old (10 ∷ rest)
-            ≡ after (list_of (told_if ended told.new)) (spells_from self.new rest)) }
-        ensures refused { IfErr result (λ e. (rest : List ℕ)
-            → spells_from self.old (10 ∷ rest) ≡ refused_with e) }
+        ensures goes_on { ReadsByte self.old self.new 10 told.new result }
+        ensures refused { RefusesByte self.old 10 result }
         ensures room { (n : ℕ) → IsWithin self.old n → OnOk result (IsWithin self.new (n + 1)) }
     {
         self.after_cr = false;
@@ -77,11 +75,8 @@ impl Scanner {
         requires room { InRoom self.old.reading (2 ^ 62) }
         requires within { byte ≢ 10 }
         requires plain { self.old.after_cr ≡ false }
-        ensures goes_on { IfOk result (λ ended. (rest : List ℕ)
-            → spells_from self.old (byte ∷ rest)
-            ≡ after (list_of (told_if ended told.new)) (spells_from self.new rest)) }
-        ensures refused { IfErr result (λ e. (rest : List ℕ)
-            → spells_from self.old (byte ∷ rest) ≡ refused_with e) }
+        ensures goes_on { ReadsByte self.old self.new byte told.new result }
+        ensures refused { RefusesByte self.old byte result }
         ensures room { (n : ℕ) → InRoom self.old.reading n
             → OnOk result (InRoom self.new.reading (n + 1)) }
     {
@@ -199,11 +194,8 @@ impl Scanner {
     /// The line that is refused, whatever comes after.
     pub(crate) fn take(&mut self, byte: u8, told: &mut Told) -> Result<bool, RefusedRecord>
         requires { IsWithin self.old (2 ^ 60) }
-        ensures goes_on { IfOk result (λ ended. (rest : List ℕ)
-            → spells_from self.old (byte ∷ rest)
-            ≡ after (list_of (told_if ended told.new)) (spells_from self.new rest)) }
-        ensures refused { IfErr result (λ e. (rest : List ℕ)
-            → spells_from self.old (byte ∷ rest) ≡ refused_with e) }
+        ensures goes_on { ReadsByte self.old self.new byte told.new result }
+        ensures refused { RefusesByte self.old byte result }
         ensures room { (n : ℕ) → IsWithin self.old n → OnOk result (IsWithin self.new (n + 1)) }
     {
         if byte == b'\n' {

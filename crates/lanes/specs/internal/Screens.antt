@@ -13,6 +13,11 @@ pub record IsScreenOf (screening : Screening) (form : Form) (fixed : List (Optio
     pub sound : IsFixed fixed
     pub screen : IfSome screening.screen (λ s. (s.form ≡ form) × (s.fixed ≡ fixed))
 
+-- the tests stay those of their condition and cards
+abbrev pub KeepsScreen : Screening → Screening → Type 0
+KeepsScreen old new = (form : Form) (fixed : List (Option Seat))
+    → IsScreenOf old form fixed → IsScreenOf new form fixed
+
 -- a deal comes if and only if the next candidate is accepted, and it is the candidate's; then it
 -- goes on to the one after it
 pub record DealsNext (form : Form) (fixed : List (Option Seat)) (old new : CandidatesView)

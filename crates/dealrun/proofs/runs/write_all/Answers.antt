@@ -5,7 +5,7 @@ use Rattle.lanes.specs.Views.{OutView}
 use Rattle.dealrun.specs.Interrupted.{InterruptedIn}
 use Rattle.plans.specs.declared.cause.Cause.TheVariants.{Output}
 use Rattle.dealrun.specs.internal.Ends.{Closes}
-use Rattle.dealrun.specs.internal.Handles.{owed_by}
+use Rattle.dealrun.specs.internal.Handles.{IsIdle, owed_by}
 use Rattle.dealrun.proofs.Causes.{at_join, said_at}
 use Rattle.dealrun.proofs.Finals.{same_at}
 use Rattle.plans.proofs.Results.{at_err, at_ok}
@@ -20,7 +20,7 @@ join_all-joined-requires-clause-unsettled g c k d lt =
     let given = ap (λ v. v.items) c.new-writer.ensures.given.1 in
     let short : k < length lanes = omega (arith, lt, lens) in
     same_at (λ (l : OutView). l.settled) _ _ k d same short
-    ∙ (subst (All (λ l. (l.taken ≡ []) × (l.settled ≡ false))) (sym given) c.requires.idle k d short).1
+    ∙ (subst (All IsIdle) (sym given) c.requires.lanes.1 k d short).1
 
 pub returns-in-Some-clause-ends : goal.returns-in-Some-clause-ends
 returns-in-Some-clause-ends g c form owes =

@@ -1,6 +1,7 @@
-use Rattle.std.proofs.Common.{arith, ◌≡◌, [], ◌∙◌, sym, refl, ap, ◌+◌, false}
+use Rattle.std.proofs.Common.{arith, ◌≡◌, ◌∙◌, sym, refl, ap, ◌+◌}
 use Rattle.std.proofs.lemmas.List.FromFn.{map-range_with_len_more}
 use Rattle.lanes.specs.Jobs.{verdicts_for}
+use Rattle.dealrun.specs.internal.Handles.{IsIdle}
 use Rattle.dealrun.proofs.Maps.{map_snoc, all_snoc}
 use Rattle.dealrun.proofs.start.assign_all.Goals as goal
 
@@ -14,5 +15,5 @@ loop-worker-preserved g c =
           ∙ sym (map-range_with_len_more (verdicts_for c.args.plan.now c.args.cond.now) 0 c.loop-worker.worker
           c.loop-worker.worker (omega arith));
       rings = map_snoc _ _ _ _ _ _ p i.rings c.in_ok-assignment.ensures.ring ∙ sym (map_snoc _ _ _ _ _ _ q (refl) (refl));
-      idle = all_snoc (λ v. (v.taken ≡ []) × (v.settled ≡ false)) _ _ _ q i.idle c.in_ok-assignment.ensures.taker;
+      idle = all_snoc IsIdle _ _ _ q i.idle c.in_ok-assignment.ensures.taker;
     }
