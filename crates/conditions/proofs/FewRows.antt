@@ -1,9 +1,12 @@
 -- A table of the answers to a question has few rows.
-use Rattle.std.proofs.Common.{ℕ, ◌≤◌, ◌*◌, ◌+◌, Bool, true, false, arith}
+use Rattle.std.proofs.Common.{ℕ, zero, suc, ◌≡◌, ◌≤◌, ◌<◌, ◌*◌, ◌+◌, ◌&&◌, Bool, true, false}
+use Rattle.std.proofs.Common.{List, [], ◌∷◌, Some, arith, nat_lt, refl, slice_get, subst}
+use Rattle.std.specs.List.{list_all}
+use Rattle.std.proofs.lemmas.Bool.{and_parts, ltb-true}
 use Rattle.std.specs.Prelude.{cond}
 use Rattle.std.proofs.Math.Nat.{min-le_right, mul-le-mul, mul-le-mul_left}
 use Rattle.cards.specs.declared.hand.Measure.{Measure}
-use Rattle.cards.specs.declared.hand.Measure.TheVariants.{Hcp, Controls, Losers}
+use Rattle.cards.specs.Measures.{measures, measure_number, measure_listed}
 use Rattle.cards.specs.declared.honours.Honours.{Honours}
 use Rattle.conditions.specs.declared.tree.Count.{Count}
 use Rattle.conditions.specs.declared.tree.Count.TheVariants as counts
@@ -20,15 +23,31 @@ one_at_most false = omega arith
 few_ranks : (h : Honours) → rank_count h ≤ 5
 few_ranks h = omega (arith, one_at_most h.ace, one_at_most h.king, one_at_most h.queen, one_at_most h.jack, one_at_most h.ten)
 
+-- no measure counts more than 40 of a hand, or of a suit: each has a place among all
+abbrev is_small : Measure → Bool
+is_small m = nat_lt (most_of m) 41 && nat_lt (most_in m) 41
+
+at_place : (test : Measure → Bool) (ms : List Measure) (n : ℕ) (m : Measure)
+    → list_all test ms ≡ true → slice_get ms n ≡ Some m → test m ≡ true
+at_place test [] n m all at = absurd cc
+at_place test (x ∷ ms) zero m all at =
+    let same : x ≡ m = cc in
+    subst (λ y. test y ≡ true) same (and_parts (test x) (list_all test ms) all).0
+at_place test (x ∷ ms) (suc n) m all at =
+    at_place test ms n m (and_parts (test x) (list_all test ms) all).1 at
+
+small : (m : Measure) → is_small m ≡ true
+small m = at_place is_small measures (measure_number m) m refl (measure_listed m)
+
 few_of : (m : Measure) → most_of m ≤ 40
-few_of Hcp = omega arith
-few_of Controls = omega arith
-few_of Losers = omega arith
+few_of m =
+    let less : most_of m < 41 = ltb-true (most_of m) 41 (and_parts _ _ (small m)).0 in
+    omega (arith, less)
 
 few_in : (m : Measure) → most_in m ≤ 40
-few_in Hcp = omega arith
-few_in Controls = omega arith
-few_in Losers = omega arith
+few_in m =
+    let less : most_in m < 41 = ltb-true (most_in m) 41 (and_parts _ _ (small m)).1 in
+    omega (arith, less)
 
 -- no count is above 40
 pub few_count : (c : Count) → greatest_count c ≤ 40
