@@ -20,9 +20,13 @@ use Rattle.clap.specs.declared.parser.matches.ArgMatches.TheViews.{out-ArgMatche
 use Rattle.clap.specs.declared.parser.matches.SubCommand.{SubCommand}
 use Rattle.command_line.specs.Commands.{deals}
 use Rattle.command_line.specs.CommandLine.{asked, asks_page, called, called_in, extra_kinds, further_kinds}
-use Rattle.command_line.specs.CommandLine.{has_bad_workers, has_extra, has_unknown, is_no_lesson, kinds_by, kinds_for}
-use Rattle.command_line.specs.CommandLine.{lacks_option, lessons_kinds, lessons_wish, made_by, make_kinds}
-use Rattle.command_line.specs.CommandLine.{missing_kinds, read_kinds, search_in, show_kinds, show_wish}
+use Rattle.command_line.specs.options.Search.{has_bad_workers, is_no_lesson}
+use Rattle.command_line.specs.options.Questions.{has_extra}
+use Rattle.command_line.specs.CommandLine.{has_unknown, kinds_by, kinds_for}
+use Rattle.command_line.specs.CommandLine.{lacks_option, lessons_kinds, made_by, make_kinds}
+use Rattle.command_line.specs.options.Others.{lessons_wish}
+use Rattle.command_line.specs.CommandLine.{missing_kinds, read_kinds, show_kinds, show_wish}
+use Rattle.command_line.specs.options.Search.{search_in}
 use Rattle.command_line.specs.CommandLine.{subcommand_named, unless_fault, wish_by, wish_in}
 use Rattle.requests.specs.Requests.{Wish, conditions}
 use Rattle.command_line.specs.declared.subcommands.Dealing.{Dealing}

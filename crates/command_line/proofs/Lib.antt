@@ -1,4 +1,4 @@
-pub mod Rows
+pub mod Adding
 pub mod Walks
 pub mod WalkValues
 pub mod Plain

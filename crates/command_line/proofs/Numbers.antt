@@ -6,7 +6,7 @@ use Rattle.clap.proofs.CallerReads.{signed_reads}
 use Rattle.clap.proofs.WalkLemmas.{one_text-rows}
 use Rattle.clap.specs.Words.{ReadsOne, Text, Row, one_of, one_text, rows_of, without_minus}
 use Rattle.clap.specs.declared.parser.matches.Found.{Found}
-use Rattle.command_line.specs.CommandLine.{number_in}
+use Rattle.command_line.specs.Given.{number_in}
 use Rattle.command_line.specs.internal.Readings.{MayGive32, MayGive64}
 
 number-some : (id : Text) (rows : List Row) (t : Text) → one_of id rows ≡ Some t → number_in id rows ≡ Some (digits_value 10 (without_leading_plus t))

@@ -8,7 +8,8 @@ use Rattle.clap.specs.Walk.{Row, Rule, Text, answers_to, arg_by_id, nothing_held
 use Rattle.clap.specs.declared.builder.value_parser.ValueParser.{ValueParser}
 use Rattle.clap.specs.declared.builder.value_parser.ValueParser.TheVariants.{Unsigned}
 use Rattle.clap.proofs.ValueTestLemmas.{accepts-Accepts}
-use Rattle.command_line.specs.Commands.{count_parser, deals, option_rule, required, u32_parser}
+use Rattle.command_line.specs.Rules.{count_parser, option_rule, required, u32_parser}
+use Rattle.command_line.specs.Commands.{deals}
 use Rattle.command_line.specs.CommandLine.{subcommand_named}
 use Rattle.command_line.specs.declared.subcommands.Dealing.{Dealing}
 use Rattle.command_line.specs.declared.subcommands.Dealing.TheVariants.{Count, Find, Make, Pick}

@@ -1,7 +1,7 @@
 //! What is known of an option by its name, for hints below refusals.
 
 use crate::helps::sample_of;
-use crate::options::{Row, Takes};
+use crate::rows::{Row, Takes};
 use crate::subcommands::{SubcommandRow, subcommands};
 use cards::{MAX_CANDIDATES, MAX_WORKERS};
 
@@ -37,12 +37,14 @@ pub fn known_option(name: &str) -> Option<KnownOption> {
 
 /// Returns whether the command takes the option of this name or letter.
 pub fn takes_option(command: &str, name: &str) -> bool {
-    subcommands().iter().any(|sub| sub.name == command && row_in(sub.rows, name).is_some())
+    subcommands()
+        .iter()
+        .any(|sub| sub.name == command && row_in(sub, name).is_some())
 }
 
 /// The option, if this command takes it.
 fn known_in(sub: &SubcommandRow, name: &str) -> Option<KnownOption> {
-    let row = row_in(sub.rows, name)?;
+    let row = row_in(sub, name)?;
     Some(KnownOption {
         id: row.id,
         command: sub.name,
@@ -51,8 +53,10 @@ fn known_in(sub: &SubcommandRow, name: &str) -> Option<KnownOption> {
     })
 }
 
-fn row_in(rows: &'static [Row], name: &str) -> Option<&'static Row> {
-    rows.iter().find(|row| is_named(row, name))
+fn row_in(sub: &SubcommandRow, name: &str) -> Option<&'static Row> {
+    sub.groups
+        .iter()
+        .find_map(|rows| rows.iter().find(|row| is_named(row, name)))
 }
 
 fn is_named(row: &Row, name: &str) -> bool {
@@ -81,7 +85,7 @@ fn taken_by(row: &Row) -> Option<Taken> {
 
 /// The name that help gives to the words of an option that has one of a few.
 pub(crate) fn value_name(id: &str) -> &'static str {
-    let row = subcommands().iter().find_map(|sub| row_in(sub.rows, id));
+    let row = subcommands().iter().find_map(|sub| row_in(sub, id));
     match row.map(|row| &row.takes) {
         Some(Takes::Word(name)) => name,
         _ => "WORD",

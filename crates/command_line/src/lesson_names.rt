@@ -4,10 +4,10 @@
 
 ghost use Rattle.std.specs.Prelude.{◌≡◌, is_some, option_map};
 ghost use Rattle.clap.specs.Words.{found_of, rows_of};
-ghost use Rattle.command_line.specs.CommandLine.{is_no_lesson, lesson_in};
+ghost use Rattle.command_line.specs.options.Search.{is_no_lesson, lesson_in};
 ghost use Rattle.requests.specs.Lessons.{lesson_of};
 
-use crate::words::text_in;
+use crate::given::text_in;
 use clap::ArgMatches;
 use requests::lessons::{Lesson, name_at, named};
 use std::alloc::{AllocError, Global};

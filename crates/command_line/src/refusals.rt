@@ -3,11 +3,11 @@
 ghost use Rattle.std.specs.Prelude.{◌≡◌, IfOk};
 ghost use Rattle.clap.specs.Words.{kind_of};
 
-use crate::choices::Unknown;
+use crate::given::Unknown;
 use crate::known::value_name;
 use crate::lesson_names::tip;
+use crate::options::search::why_no_number;
 use crate::subcommands::{Subcommand, command_alone};
-use crate::workers::why_no_number;
 use clap::Error;
 use clap::error::ErrorKind;
 use std::alloc::{AllocError, Global};

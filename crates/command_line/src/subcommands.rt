@@ -3,12 +3,18 @@
 ghost use Rattle.std.specs.Prelude.{◌≡◌, IfOk, false, fold, map};
 ghost use Rattle.clap.specs.Words.{app_of, with_subcommand};
 ghost use Rattle.clap.specs.declared.Command.TheViews.{out-Command as fields_of};
-ghost use Rattle.command_line.specs.CommandLine.{meant_by, names, subcommand_named};
+ghost use Rattle.command_line.specs.Given.{meant_by};
+ghost use Rattle.command_line.specs.CommandLine.{names, subcommand_named};
 ghost use Rattle.command_line.specs.Commands.{deals, deals_top, subcommands};
 ghost use Rattle.command_line.specs.internal.Rows.{app_for, top_for};
 
 use crate::helps::{about_of, examples_of};
-use crate::options::{ALONE, COUNT, FIND, MAKE, NAMED, PICK, Row, SHOWN, STREAM, with_rows};
+use crate::options::look::{BOARD_ROWS, FORMAT_ROWS, SHOW_ROWS, TEXT_ROWS};
+use crate::options::notices::{HELP_ROWS, HINTS_ROWS, PROGRESS_ROWS, REPORT_ROWS};
+use crate::options::others::{COUNT_ROWS, NAME_ROWS};
+use crate::options::questions::QUESTION_ROWS;
+use crate::options::search::{HAND_ROWS, SEARCH_ROWS, SEED_ROWS, SPEED_ROWS};
+use crate::rows::{Row, with_groups};
 use crate::texts::{ABOUT, PROGRAM_EXAMPLES};
 use clap::Command;
 use std::alloc::{AllocError, Global};
@@ -39,7 +45,8 @@ pub(crate) struct SubcommandRow {
     pub(crate) name: &'static str,
     /// The program's name and its own, as `clap` names it in a refusal.
     in_full: &'static str,
-    pub(crate) rows: &'static [Row],
+    /// Its options, in the order of the help: which deals, how they look, speed, and what is said.
+    pub(crate) groups: &'static [&'static [Row]],
 }
 
 static SUBCOMMANDS: [SubcommandRow; 9] = [
@@ -47,55 +54,95 @@ static SUBCOMMANDS: [SubcommandRow; 9] = [
         subcommand: Subcommand::Deals(Dealing::Make),
         name: "make",
         in_full: "deals make",
-        rows: MAKE,
+        groups: &[
+            SEED_ROWS,
+            SEARCH_ROWS,
+            HAND_ROWS,
+            FORMAT_ROWS,
+            SHOW_ROWS,
+            BOARD_ROWS,
+            TEXT_ROWS,
+            SPEED_ROWS,
+            REPORT_ROWS,
+            PROGRESS_ROWS,
+            HINTS_ROWS,
+            HELP_ROWS,
+        ],
     },
     SubcommandRow {
         subcommand: Subcommand::Deals(Dealing::Find),
         name: "find",
         in_full: "deals find",
-        rows: FIND,
+        groups: &[
+            SEED_ROWS,
+            SEARCH_ROWS,
+            HAND_ROWS,
+            SPEED_ROWS,
+            REPORT_ROWS,
+            PROGRESS_ROWS,
+            HINTS_ROWS,
+            HELP_ROWS,
+        ],
     },
     SubcommandRow {
         subcommand: Subcommand::Deals(Dealing::Count),
         name: "count",
         in_full: "deals count",
-        rows: COUNT,
+        groups: &[
+            SEED_ROWS,
+            SEARCH_ROWS,
+            HAND_ROWS,
+            QUESTION_ROWS,
+            SPEED_ROWS,
+            PROGRESS_ROWS,
+            HINTS_ROWS,
+            HELP_ROWS,
+        ],
     },
     SubcommandRow {
         subcommand: Subcommand::Deals(Dealing::Pick),
         name: "pick",
         in_full: "deals pick",
-        rows: PICK,
+        groups: &[
+            SEED_ROWS,
+            HAND_ROWS,
+            FORMAT_ROWS,
+            SHOW_ROWS,
+            BOARD_ROWS,
+            TEXT_ROWS,
+            HINTS_ROWS,
+            HELP_ROWS,
+        ],
     },
     SubcommandRow {
         subcommand: Subcommand::Show,
         name: "show",
         in_full: "deals show",
-        rows: SHOWN,
+        groups: &[FORMAT_ROWS, SHOW_ROWS, TEXT_ROWS, HINTS_ROWS, HELP_ROWS],
     },
     SubcommandRow {
         subcommand: Subcommand::Conditions,
         name: "conditions",
         in_full: "deals conditions",
-        rows: ALONE,
+        groups: &[HELP_ROWS],
     },
     SubcommandRow {
         subcommand: Subcommand::Lessons,
         name: "lessons",
         in_full: "deals lessons",
-        rows: NAMED,
+        groups: &[NAME_ROWS, HELP_ROWS],
     },
     SubcommandRow {
         subcommand: Subcommand::Seed,
         name: "seed",
         in_full: "deals seed",
-        rows: ALONE,
+        groups: &[HELP_ROWS],
     },
     SubcommandRow {
         subcommand: Subcommand::Stream,
         name: "stream",
         in_full: "deals stream",
-        rows: STREAM,
+        groups: &[SEED_ROWS, COUNT_ROWS, HELP_ROWS],
     },
 ];
 
@@ -138,7 +185,7 @@ fn command_of<'a>(alloc: Global, row: &SubcommandRow) -> Result<Command<'a>, All
         .disable_help_flag(true)
         .about(about_of(row.name))
         .after_help(examples_of(row.name));
-    with_rows(alloc, row.name, command, row.rows)
+    with_groups(alloc, row.name, command, row.groups)
 }
 
 /// The subcommand by itself, as `clap` names it in a refusal.

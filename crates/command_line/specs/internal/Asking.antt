@@ -3,8 +3,12 @@ use Rattle.std.specs.Prelude.{◌≡◌, true, false, List, [], ◌∷◌, None,
 use Rattle.clap.specs.Walk.{Row, Text}
 use Rattle.clap.specs.declared.error.kind.ErrorKind.{ErrorKind}
 use Rattle.clap.specs.declared.error.kind.ErrorKind.TheVariants.{ArgumentConflict, InvalidValue, MissingRequiredArgument, ValueValidation}
-use Rattle.command_line.specs.CommandLine.{asked, has_bad_workers, has_extra, has_unknown, is_no_lesson, kinds_for}
-use Rattle.command_line.specs.CommandLine.{lacks_option, lessons_wish, made_by, search_in, show_wish, wish_by}
+use Rattle.command_line.specs.CommandLine.{asked, has_unknown, kinds_for}
+use Rattle.command_line.specs.options.Search.{has_bad_workers, is_no_lesson}
+use Rattle.command_line.specs.options.Questions.{has_extra}
+use Rattle.command_line.specs.CommandLine.{lacks_option, made_by, show_wish, wish_by}
+use Rattle.command_line.specs.options.Others.{lessons_wish}
+use Rattle.command_line.specs.options.Search.{search_in}
 use Rattle.command_line.specs.declared.subcommands.Dealing.{Dealing}
 use Rattle.command_line.specs.declared.subcommands.Subcommand.{Subcommand}
 use Rattle.command_line.specs.declared.subcommands.Subcommand.TheVariants.{Deals, Lessons, Stream}

@@ -1,7 +1,7 @@
 -- The tables that the options of a few words are written as.
 use Rattle.std.specs.Prelude.{List, map}
 use Rattle.clap.specs.Words.{Text}
-use Rattle.command_line.specs.declared.choices.Choice.{Choice}
+use Rattle.command_line.specs.declared.given.Choice.{Choice}
 
 -- what each word means
 abbrev pub table_of : {A : Type 0} → Choice A → List (Text × A)

@@ -1,13 +1,14 @@
 -- The rules of the rows that the commands and their options are written as.
-use Rattle.std.specs.Prelude.{map}
+use Rattle.std.specs.Prelude.{fold, map}
 use Rattle.clap.specs.Simple.{Shape}
-use Rattle.clap.specs.Words.{App, Rule, Text}
+use Rattle.clap.specs.Words.{App, Rule, Text, with_rule}
 use Rattle.clap.specs.declared.builder.value_parser.ValueParser.TheVariants.{String}
-use Rattle.command_line.specs.declared.options.Row.{Row}
+use Rattle.command_line.specs.declared.rows.Row.{Row}
 use Rattle.command_line.specs.declared.subcommands.SubcommandRow.{SubcommandRow}
-use Rattle.command_line.specs.declared.options.Takes.{Takes}
-use Rattle.command_line.specs.declared.options.Takes.TheVariants as kinds
-use Rattle.command_line.specs.Commands.{asking_rule, command_with, count_parser, flag_rule, option_rule, repeated, u32_parser, u64_parser, value_rule}
+use Rattle.command_line.specs.declared.rows.Takes.{Takes}
+use Rattle.command_line.specs.declared.rows.Takes.TheVariants as kinds
+use Rattle.command_line.specs.Rules.{asking_rule, bare, count_parser, flag_rule, option_rule}
+use Rattle.command_line.specs.Rules.{repeated, u32_parser, u64_parser, value_rule}
 
 abbrev pub taking : Takes → Text → Rule
 taking kinds.Nothing id = flag_rule id
@@ -26,7 +27,8 @@ rule_for row =
     record (taking row.takes row.id.now) { required = row.is_required; short = row.short }
 
 abbrev pub app_for : SubcommandRow → App
-app_for row = command_with row.name.now (map rule_for row.rows.now)
+app_for row =
+    fold (fold with_rule) (bare row.name.now) (map (λ rows. map rule_for rows.now) row.groups.now)
 
 abbrev pub top_for : SubcommandRow → Shape
 top_for row = (app_for row).top

@@ -1,5 +1,5 @@
 use Rattle.std.proofs.Common.{◌≡◌, map, length}
-use Rattle.command_line.specs.CommandLine.{meant_by}
+use Rattle.command_line.specs.Given.{meant_by}
 use Rattle.command_line.proofs.subcommands.named_in.Given as goal
 
 -- what is left of the table says the same as all of it

@@ -1,5 +1,5 @@
 use Rattle.std.proofs.Common.{◌∙◌, ap}
-use Rattle.command_line.specs.CommandLine.{meant_by}
+use Rattle.command_line.specs.Given.{meant_by}
 use Rattle.command_line.proofs.subcommands.subcommand_named.Goals as goal
 
 pub returns : goal.returns

@@ -1,7 +1,7 @@
 use Rattle.std.proofs.Common.{ap}
 use Rattle.clap.specs.Words.{app_of, with_subcommand}
 use Rattle.command_line.specs.internal.Rows.{top_for}
-use Rattle.command_line.proofs.Rows.{one_more}
+use Rattle.command_line.proofs.Adding.{one_more}
 use Rattle.command_line.proofs.subcommands.with_subcommands.Goals as goal
 
 pub loop-row-preserved : goal.loop-row-preserved
