@@ -38,6 +38,16 @@ pub const FORMATS: &[(&str, Format)] = &[
 /// Their names, as help lists them.
 pub const FORMAT_WORDS: &str = "pbn, hands, lin, html, sheet, slips, json";
 
+/// What help says of the option that takes one of them: its name, a value and a text, whose lines
+/// have at most 53 columns.
+pub const FORMAT_HELP: &str = "format html: How the boards are written: pbn for dealing machines
+and bridge programs, hands for text to print, html
+for a page to look at and print, sheet for 18 boards
+on each page, slips for hands to be cut out, lin for
+BBO, json for programs of your own [default: pbn]
+[possible values: pbn, hands, lin, html, sheet,
+slips, json]";
+
 impl Format {
     /// Whether the boards have numbers of their own.
     pub fn numbers_boards(self) -> bool

@@ -26,7 +26,7 @@ pub use board::Board;
 pub use buffer::{CAPACITY, SuitLetters, TextBuffer};
 pub use caption::{Caption, MAX_CAPTION_BYTES, MAX_CAPTION_CHARS};
 pub use captions::Captions;
-pub use format::{FORMAT_WORDS, FORMATS, Format};
+pub use format::{FORMAT_HELP, FORMAT_WORDS, FORMATS, Format};
 pub use heading::{Date, Heading, Label, MAX_LABEL_LEN};
 pub use notation::Notation;
 pub use setting::{Setting, Vul, dealer, vulnerable};

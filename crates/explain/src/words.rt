@@ -35,6 +35,7 @@ pub(crate) fn hint(alloc: Global, words: &[String], refusal: &str) -> Option<Str
         Some(text) => text,
         None => hint_for(alloc, words, refused::read(refusal)?)?,
     };
+    let text = instead::filled(alloc, text)?;
     // Two hints are lines already.
     if text.as_str().starts_with(HINT) {
         return Some(text);

@@ -1,9 +1,14 @@
 //! Options, commands and words that people try first, and what to write in their place.
 
+use crate::words::joined;
 use crate::words::table::{find, find_small};
+use boards::FORMATS;
 use std::alloc::Global;
 
 const AFTER_OPTIONS: &str = "each value comes after its option, as --seed 7 --boards 36";
+
+/// In a text: the formats but PBN.
+const FORMATS_HERE: &str = "%formats";
 
 /// Options, first words in place of a command, commands, and words that are no option.
 const ROWS: &str = "
@@ -19,7 +24,7 @@ const ROWS: &str = "
     option --average --mean --frequency --stats --statistics => \
         deals count tells how often each number comes, and the mean: --of 'hcp(north)'
     option|word --pbn --html --lin --json --hands --pdf --type pbn hands lin html json pdf => \
-        boards are PBN, or what --format says: --format hands, lin, html, sheet, slips or json
+        boards are PBN, or what --format says: --format %formats
     option --title --name --tournament => write --event 'Club night' for the name of the event
     option --place --location --club => write --site 'Bridge club' for the club or the place
     option --threads --jobs --cores --parallel -j -t => write --workers 3 for three threads
@@ -112,4 +117,30 @@ pub(crate) fn of_option(option: &str) -> Option<&'static str> {
 /// What to write in the place of this word, if it is one that people try.
 pub(crate) fn known_word(word: &str) -> Option<&'static str> {
     find(ROWS, "word", word)
+}
+
+/// The text, with the formats where it names all but PBN.
+pub(crate) fn filled(alloc: Global, text: String) -> Option<String> {
+    let Some((before, after)) = text.as_str().split_once(FORMATS_HERE) else {
+        return Some(text);
+    };
+    let mut out = joined(alloc, &[before])?;
+    put_formats(&mut out)?;
+    out.push_str(after).ok()?;
+    Some(out)
+}
+
+/// Appends the words of the formats after PBN, which is the first.
+fn put_formats(out: &mut String) -> Option<()> {
+    let others = FORMATS.get(1..)?;
+    for (place, (word, _)) in others.iter().enumerate() {
+        out.push_str(word).ok()?;
+        let more = match others.len().saturating_sub(place) {
+            1 => "",
+            2 => " or ",
+            _ => ", ",
+        };
+        out.push_str(more).ok()?;
+    }
+    Some(())
 }
