@@ -1,9 +1,9 @@
 //! What the words of a command line ask for.
 //!
-//! `options.rt` has all options: a row of each, what help says of it and what it means; and
-//! `subcommands.rt` the subcommands, whose texts are in `texts.rt`. `rows.rt` makes `clap`'s options
-//! of rows, `given.rt` says what an option was given, and `words.rt` makes a request of all words.
-//! `shown.rt` shows what clap says of them, and `known.rt` tells what is known of an option.
+//! `options.rt` has all options: a row of each, what help says of it and what it means. The
+//! subcommands are in `subcommands.rt`, and their texts in `texts.rt`. `rows.rt` makes `clap`'s
+//! options of rows, `given.rt` says what an option was given, and `words.rt` makes a request of all
+//! words. `shown.rt` shows what clap says of them, and `known.rt` tells what is known of an option.
 #![tactic(auto)]
 
 mod given;

@@ -59,7 +59,8 @@ where 'hcp(north)>=15': What each deal has to meet, in quotes, as
 'hcp(north)>=15'; deals help conditions explains it
 [default: every deal]
 
-let 'let fit is (len(north,spades)+len(south,spades))': Names that conditions and questions may use, as
+let 'let fit is (len(north,spades)+len(south,spades))': \
+Names that conditions and questions may use, as
 'let fit(suit) is (len(north,suit)+len(south,suit))'
 [default: none]
 
