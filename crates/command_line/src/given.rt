@@ -46,7 +46,7 @@ pub(crate) fn is_set(matches: &ArgMatches, id: &str) -> bool
 }
 
 /// An option that has one of a few words.
-pub struct Choice<T: Copy + 'static> {
+pub struct OptionWords<T: Copy + 'static> {
     pub(crate) id: &'static str,
     /// Its values, as help lists them.
     pub(crate) values: &'static str,
@@ -66,7 +66,7 @@ pub struct Unknown<'a> {
 /// An option, its words, and what each means.
 macro_rules! choice {
     ($id:literal $first:literal => $meaning:expr $(, $word:literal => $other:expr)*) => {
-        Choice {
+        OptionWords {
             id: $id,
             values: concat!($first $(, ", ", $word)*),
             table: &[($first, $meaning) $(, ($word, $other))*],
@@ -89,7 +89,7 @@ pub(crate) fn look_up<T: Copy>(mut table: &[(&str, T)], word: &str) -> Option<T>
     None
 }
 
-impl<T: Copy + 'static> Choice<T> {
+impl<T: Copy + 'static> OptionWords<T> {
     /// What the word means that was given, if it means anything.
     pub fn given(&self, matches: &ArgMatches) -> Option<T>
         ensures { result

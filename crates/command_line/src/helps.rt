@@ -20,7 +20,7 @@ pub(crate) struct Section {
 pub(crate) type Help = (&'static str, &'static str);
 
 /// A value of an option, empty if its entry has none, and its text.
-type Entry = (&'static str, &'static str);
+type HelpEntry = (&'static str, &'static str);
 
 static SECTIONS: [&[Section]; 5] = [
     search::HELP,
@@ -31,14 +31,14 @@ static SECTIONS: [&[Section]; 5] = [
 ];
 
 /// The entry, if it is that of the option.
-fn named(entry: &'static str, id: &str) -> Option<Entry> {
+fn named(entry: &'static str, id: &str) -> Option<HelpEntry> {
     let (head, text) = entry.split_once(": ")?;
     let (name, value) = head.split_once(' ').unwrap_or((head, ""));
     (name == id).then_some((value, text))
 }
 
 impl Section {
-    fn entry(&self, id: &str) -> Option<Entry> {
+    fn entry(&self, id: &str) -> Option<HelpEntry> {
         self.entries
             .split("\n\n")
             .find_map(|entry| named(entry, id))

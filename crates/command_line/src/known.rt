@@ -1,7 +1,7 @@
 //! What is known of an option by its name, for hints below refusals.
 
 use crate::helps::sample_of;
-use crate::rows::{Row, Takes};
+use crate::rows::{OptionRow, Takes};
 use crate::subcommands::{SubcommandRow, subcommands};
 use cards::{MAX_CANDIDATES, MAX_WORKERS};
 
@@ -53,13 +53,13 @@ fn known_in(sub: &SubcommandRow, name: &str) -> Option<KnownOption> {
     })
 }
 
-fn row_in(sub: &SubcommandRow, name: &str) -> Option<&'static Row> {
+fn row_in(sub: &SubcommandRow, name: &str) -> Option<&'static OptionRow> {
     sub.groups
         .iter()
         .find_map(|rows| rows.iter().find(|row| is_named(row, name)))
 }
 
-fn is_named(row: &Row, name: &str) -> bool {
+fn is_named(row: &OptionRow, name: &str) -> bool {
     if name.strip_prefix("--").unwrap_or(name) == row.id {
         return true;
     }
@@ -70,7 +70,7 @@ fn is_named(row: &Row, name: &str) -> bool {
 }
 
 /// What the row's option takes; none if it is the flag for help, or a value without a name.
-fn taken_by(row: &Row) -> Option<Taken> {
+fn taken_by(row: &OptionRow) -> Option<Taken> {
     let most = match row.takes {
         Takes::Help | Takes::Value(_) => return None,
         Takes::Nothing => return Some(Taken::Nothing),

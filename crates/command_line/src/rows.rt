@@ -40,7 +40,7 @@ pub(crate) enum Takes {
 
 /// An option `--id`. What help says of it is beside its row, and not in it: with the texts a table
 /// would be too large for the prover, which computes the whole of it.
-pub(crate) struct Row {
+pub(crate) struct OptionRow {
     pub(crate) id: &'static str,
     /// The letter of `-s`, where it has one.
     pub(crate) short: Option<char>,
@@ -108,7 +108,7 @@ fn taking<'a>(alloc: Global, takes: &Takes, id: &'static str) -> Arg<'a>
 }
 
 /// The row as `clap` has it, in the subcommand of this name.
-fn arg_of<'a>(alloc: Global, name: &str, row: &Row) -> Arg<'a>
+fn arg_of<'a>(alloc: Global, name: &str, row: &OptionRow) -> Arg<'a>
     ensures rule { rule_of result ≡ rule_for row.entry.now }
     ensures local { result.global ≡ false }
 {
@@ -139,7 +139,7 @@ fn with_rows<'a>(
     alloc: Global,
     name: &str,
     command: Command<'a>,
-    rows: &[Row],
+    rows: &[OptionRow],
 ) -> Result<Command<'a>, AllocError>
     ensures app { IfOk result (λ c. app_of c
         ≡ fold with_rule (app_of command.entry) (map rule_for rows.entry.now)) }
@@ -158,7 +158,7 @@ pub(crate) fn with_groups<'a>(
     alloc: Global,
     name: &str,
     command: Command<'a>,
-    groups: &[&[Row]],
+    groups: &[&[OptionRow]],
 ) -> Result<Command<'a>, AllocError>
     ensures app { IfOk result (λ c. app_of c
         ≡ fold (fold with_rule) (app_of command.entry)
@@ -176,7 +176,7 @@ pub(crate) fn with_groups<'a>(
 /// An option by its id, and what it takes.
 macro_rules! optional {
     ($id:literal $takes:expr) => {
-        Row {
+        OptionRow {
             id: $id,
             short: None,
             takes: $takes,
@@ -184,7 +184,7 @@ macro_rules! optional {
         }
     };
     ($letter:literal $id:literal $takes:expr) => {
-        Row {
+        OptionRow {
             id: $id,
             short: Some($letter),
             takes: $takes,
@@ -198,7 +198,7 @@ pub(crate) use optional;
 /// An option that has to be given.
 macro_rules! required {
     ($id:literal $takes:expr) => {
-        Row {
+        OptionRow {
             id: $id,
             short: None,
             takes: $takes,
@@ -206,7 +206,7 @@ macro_rules! required {
         }
     };
     ($letter:literal $id:literal $takes:expr) => {
-        Row {
+        OptionRow {
             id: $id,
             short: Some($letter),
             takes: $takes,

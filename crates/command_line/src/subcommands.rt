@@ -14,7 +14,7 @@ use crate::options::notices::{HELP_ROWS, HINTS_ROWS, PROGRESS_ROWS, REPORT_ROWS}
 use crate::options::others::{COUNT_ROWS, NAME_ROWS};
 use crate::options::questions::QUESTION_ROWS;
 use crate::options::search::{HAND_ROWS, SEARCH_ROWS, SEED_ROWS, SPEED_ROWS};
-use crate::rows::{Row, with_groups};
+use crate::rows::{OptionRow, with_groups};
 use crate::texts::{ABOUT, PROGRAM_EXAMPLES};
 use clap::Command;
 use std::alloc::{AllocError, Global};
@@ -46,7 +46,7 @@ pub(crate) struct SubcommandRow {
     /// The program's name and its own, as `clap` names it in a refusal.
     in_full: &'static str,
     /// Its options, in the order of the help: which deals, how they look, speed, and what is said.
-    pub(crate) groups: &'static [&'static [Row]],
+    pub(crate) groups: &'static [&'static [OptionRow]],
 }
 
 static SUBCOMMANDS: [SubcommandRow; 9] = [
@@ -146,7 +146,7 @@ static SUBCOMMANDS: [SubcommandRow; 9] = [
     },
 ];
 
-/// The subcommands: the table stands in one function alone, since a proof reads all of it.
+/// The subcommands: the table is in one function alone, since a proof reads all of it.
 pub(crate) fn subcommands() -> &'static [SubcommandRow; 9]
     ensures made { map top_for result.now ≡ map (λ p. p.1.top) subcommands }
     ensures named { map (λ row. (row.name.now, row.subcommand)) result.now ≡ names }

@@ -138,7 +138,7 @@ pub fn read_words<'a>(alloc: Global, words: &'a [String]) -> Result<Request<'a>,
 }
 
 /// The refusal, or that memory ran out before its text was written.
-fn written(refusal: Result<Error, AllocError>) -> Error
+fn or_out_of_memory(refusal: Result<Error, AllocError>) -> Error
     ensures { (kind : ErrorKind) → IfOk refusal (λ e. kind_of e ≡ kind)
         → HasKind (kind ∷ []) result }
 {
@@ -154,7 +154,7 @@ fn lessons_request<'a>(alloc: Global, matches: &ArgMatches<'a>) -> Result<Reques
         → AreRead words result }
 {
     if let Some(word) = no_lesson_in(matches, "name") {
-        return Err(written(invalid_name(alloc, Subcommand::Lessons, "[NAME]", word)));
+        return Err(or_out_of_memory(invalid_name(alloc, Subcommand::Lessons, "[NAME]", word)));
     }
     Ok(Request::Lessons(lesson_in(matches, "name")))
 }
@@ -165,7 +165,7 @@ fn show_request<'a>(alloc: Global, matches: &ArgMatches<'a>) -> Result<Request<'
         → AreRead words result }
 {
     if let Some(unknown) = unknown_in(Subcommand::Show, matches) {
-        return Err(written(invalid_value(alloc, Subcommand::Show, &unknown)));
+        return Err(or_out_of_memory(invalid_value(alloc, Subcommand::Show, &unknown)));
     }
     Ok(Request::Show {
         look: shown_look(matches),
@@ -186,20 +186,20 @@ fn dealing_request<'a>(
 {
     let subcommand = Subcommand::Deals(dealing);
     if let Some(unknown) = unknown_in(subcommand, matches) {
-        return Err(written(invalid_value(alloc, subcommand, &unknown)));
+        return Err(or_out_of_memory(invalid_value(alloc, subcommand, &unknown)));
     }
     if let Some(word) = no_lesson_in(matches, "lesson") {
-        return Err(written(invalid_name(alloc, subcommand, "--lesson <NAME>", word)));
+        return Err(or_out_of_memory(invalid_name(alloc, subcommand, "--lesson <NAME>", word)));
     }
     if let Some(word) = bad_workers_in(matches) {
-        return Err(written(invalid_number(alloc, subcommand, word)));
+        return Err(or_out_of_memory(invalid_number(alloc, subcommand, word)));
     }
     let search = search_in(matches);
     if let Some(options) = missing_of(dealing, &search, matches) {
-        return Err(written(missing_option(alloc, subcommand, options)));
+        return Err(or_out_of_memory(missing_option(alloc, subcommand, options)));
     }
     if let Some(why) = extra_of(matches) {
-        return Err(written(conflicting_option(alloc, subcommand, why)));
+        return Err(or_out_of_memory(conflicting_option(alloc, subcommand, why)));
     }
     Ok(request_by(dealing, search, matches))
 }

@@ -3,7 +3,7 @@
 ghost use Rattle.std.specs.Prelude.{◌≡◌, IfSome};
 ghost use Rattle.jobs.specs.Failures.{status_in};
 
-use crate::streams::Said;
+use crate::streams::ErrOutput;
 use deals_cli::{Failure, Report};
 use explain::without_far_tips;
 use sinks::put_all;
@@ -43,7 +43,7 @@ pub fn cut_off(ended: &Result<Option<Report>, Failure>, reason: Option<&io::Erro
 }
 
 /// Says it to a person, if there is something to say.
-pub fn say_more(text: Option<String>, err: &mut Said) {
+pub fn say_more(text: Option<String>, err: &mut ErrOutput) {
     if err.fault_count() > 0 {
         return;
     }

@@ -20,7 +20,7 @@ use crate::endings::{cut_off, for_person, say_more};
 use crate::help::help;
 use crate::notes::{as_asked, note_after, put_note, put_notes, with_count};
 use crate::seen::Seen;
-use crate::streams::{Given, Output, Said, hints_of, is_time, open};
+use crate::streams::{ErrOutput, Input, Output, hints_are_on, hints_of, open};
 use clap::Error;
 use command_line::read_words;
 use deals_cli::{Failure, Report, Request, Task, conclude, perform, prepare};
@@ -73,9 +73,9 @@ fn tell(
     read: &Result<Request<'_>, Error>,
     ended: Result<Option<Report>, Failure>,
     reasons: Reasons<'_>,
-    err: &mut Said,
+    err: &mut ErrOutput,
 ) -> u8
-    requires { ⟦<Said as Sink>⟧.faults err.old < 2 ^ 64 - 1 }
+    requires { ⟦<ErrOutput as Sink>⟧.faults err.old < 2 ^ 64 - 1 }
 {
     let ended = for_person(rt, ended);
     let status = conclude(&ended, err);
@@ -94,16 +94,16 @@ fn answer<R: Threads + Wait + Clone + Send + 'static>(
     words: &[String],
     read: &Result<Request<'_>, Error>,
     out: &mut Output,
-    err: &mut Said,
+    err: &mut ErrOutput,
 ) -> u8
     requires read { AreRead (map string_bytes words.now) read.now }
     requires out { ⟦<Output as Sink>⟧.faults out.old < 2 ^ 64 - 1 }
-    requires err { ⟦<Said as Sink>⟧.faults err.old < 2 ^ 64 - 1 }
+    requires err { ⟦<ErrOutput as Sink>⟧.faults err.old < 2 ^ 64 - 1 }
 {
-    let hints = is_time(rt, hints_of(words, read));
+    let hints = hints_are_on(rt, hints_of(words, read));
     let reason = Cell::new(None);
     let seen = Cell::new(Seen::nothing());
-    let mut input = Reader::new(Given::new(rt, read, &reason, &seen));
+    let mut input = Reader::new(Input::new(rt, read, &reason, &seen));
     let ended = match noted(rt, words, read, hints) {
         Ok(task) => perform(threads, rt.alloc(), task, &mut input, out),
         Err(failure) => Err(failure),

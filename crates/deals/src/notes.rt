@@ -19,7 +19,7 @@ pub fn put_notes(
 ) {
     if let (Ok(request), Task::Do(job)) = (read, task) {
         put_note(rt, note(rt.alloc(), words, request, job));
-        put_note(rt, typed(rt, job));
+        put_note(rt, keyboard_note(rt, job));
     }
 }
 
@@ -70,7 +70,7 @@ pub fn put_note(rt: &HostRuntime, text: Option<String>) {
 }
 
 /// Where the tricks or the boards are read from, if that is the keyboard.
-fn typed(rt: &HostRuntime, job: &Job) -> Option<String> {
+fn keyboard_note(rt: &HostRuntime, job: &Job) -> Option<String> {
     let text = match job {
         Job::Boards(job) if job.tricks => {
             "note: the tricks are read from the keyboard: for a file write --tricks < FILE\n"

@@ -1,6 +1,6 @@
 //! What is said of a search that has found nothing for long.
 
-use crate::streams::{hints_of, is_time};
+use crate::streams::{hints_are_on, hints_of};
 use cards::Fixed;
 use clap::Error;
 use deals_cli::{Request, Search};
@@ -28,7 +28,9 @@ impl Rare {
     pub fn of(rt: &HostRuntime, words: &[String], read: &Result<Request<'_>, Error>) -> Rare {
         let alloc = rt.alloc();
         let search = match read {
-            Ok(request) if is_time(rt, hints_of(words, read)) => with_condition(alloc, request),
+            Ok(request) if hints_are_on(rt, hints_of(words, read)) => with_condition(
+                alloc, request,
+            ),
             _ => None,
         };
         Rare { alloc, search }

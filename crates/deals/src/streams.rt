@@ -37,7 +37,7 @@ enum Origin {
 
 /// The input of a request: standard input, and for a seed what the kernel draws.
 #[derive(Drop)]
-pub struct Given<'a> {
+pub struct Input<'a> {
     origin: Origin,
     /// The number of the system's error, once reading failed.
     reason: &'a Cell<Option<i32>>,
@@ -45,7 +45,7 @@ pub struct Given<'a> {
     seen: Option<&'a Cell<Seen>>,
 }
 
-impl<'a> Given<'a> {
+impl<'a> Input<'a> {
     /// The input of this request, which notes there why it couldn't be read, and what was seen of
     /// boards.
     pub fn new(
@@ -53,7 +53,7 @@ impl<'a> Given<'a> {
         read: &Result<Request<'_>, Error>,
         reason: &'a Cell<Option<i32>>,
         seen: &'a Cell<Seen>,
-    ) -> Given<'a> {
+    ) -> Input<'a> {
         let origin = match read {
             Ok(Request::Seed) => random(rt, reason),
             _ => Origin::Stdin(rt.stdin()),
@@ -62,7 +62,7 @@ impl<'a> Given<'a> {
             Ok(Request::Show { .. }) => Some(seen),
             _ => None,
         };
-        Given {
+        Input {
             origin,
             reason,
             seen,
@@ -93,7 +93,7 @@ fn missing() -> io::Error {
     io::Error::from(io::ErrorKind::NotFound)
 }
 
-impl Read for Given<'_> {
+impl Read for Input<'_> {
     fn read(&mut self, piece: &mut [u8]) -> io::Result<usize> {
         let ended = match &mut self.origin {
             Origin::Stdin(stdin) => match stdin.read(piece) {
@@ -115,7 +115,7 @@ impl Read for Given<'_> {
 pub type Output = Prompt<OverLine<io::Stdout, io::Stderr>, HostRuntime, io::Stderr, Rare>;
 
 /// Standard error, over the line of counts.
-pub type Said = Piped<OverLine<io::Stderr, io::Stderr>>;
+pub type ErrOutput = Piped<OverLine<io::Stderr, io::Stderr>>;
 
 /// How the counts of a run are shown.
 fn style_of(rt: &HostRuntime, progress: When) -> Style {
@@ -175,9 +175,9 @@ pub fn open(
     rt: &HostRuntime,
     words: &[String],
     read: &Result<Request<'_>, Error>,
-) -> io::Result<(Output, Said)>
+) -> io::Result<(Output, ErrOutput)>
     ensures out { IfOk result (λ r. ⟦<Output as Sink>⟧.faults r.0 ≡ 0) }
-    ensures err { IfOk result (λ r. ⟦<Said as Sink>⟧.faults r.1 ≡ 0) }
+    ensures err { IfOk result (λ r. ⟦<ErrOutput as Sink>⟧.faults r.1 ≡ 0) }
 {
     let drawn = Drawn::new(rt.alloc())?;
     let below = if rt.stdout().is_terminal() {
@@ -202,7 +202,7 @@ pub fn hints_of(words: &[String], read: &Result<Request<'_>, Error>) -> When {
 }
 
 /// Whether it is time, by what standard error is.
-pub fn is_time(rt: &HostRuntime, when: When) -> bool {
+pub fn hints_are_on(rt: &HostRuntime, when: When) -> bool {
     match when {
         When::Auto => rt.stderr().is_terminal(),
         When::Always => true,

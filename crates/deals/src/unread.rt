@@ -1,6 +1,6 @@
 //! Words that aren't UTF-8, which end the program with nothing said but to a person.
 
-use crate::streams::is_time;
+use crate::streams::hints_are_on;
 use explain::{hints_among, not_utf8};
 use std::env::{Env, FillError};
 
@@ -30,7 +30,7 @@ pub fn hint(rt: &HostRuntime) -> Option<String> {
             Err(_) => {}
         }
     }
-    if is_time(rt, hints_among(words.as_slice())) {
+    if hints_are_on(rt, hints_among(words.as_slice())) {
         text
     } else {
         None

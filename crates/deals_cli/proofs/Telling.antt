@@ -23,7 +23,7 @@ use Rattle.jobs.specs.Makings.{AreWorkers}
 use Rattle.deals_cli.specs.Runs.{InterruptsRun}
 use Rattle.deals_cli.specs.WithTricks.{TellsBoards}
 use Rattle.deals_cli.specs.internal.Ends.{EndsFinding, EndsReady, Found, Wrote, finding_cause}
-use Rattle.deals_cli.specs.declared.written.Written.{Written as Counted}
+use Rattle.deals_cli.specs.declared.written.BoardsWritten.{BoardsWritten as Counted}
 use Rattle.deals_cli.proofs.Finding.{accepted_below, accepted_short, found_is_read}
 use Rattle.deals_cli.proofs.OtherWorkers.{worked_end, worked_writes}
 

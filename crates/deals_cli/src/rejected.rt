@@ -4,7 +4,7 @@ ghost use Rattle.std.specs.Prelude.{◌≡◌, ◌-◌, ◌^◌, ◌<◌, []};
 ghost use Rattle.cond_lang.specs.Form.{Form};
 ghost use Rattle.deals_cli.specs.internal.Ends.{AcceptsNone, EndsWritten, FaultsOfRun};
 
-use crate::written::Written;
+use crate::written::BoardsWritten;
 use boards::Notation;
 use plans::{Cause, Plan};
 use sinks::{Sink, put_all};
@@ -14,7 +14,7 @@ pub(crate) fn write_no_board<N: Notation, O: Sink>(
     plan: &Plan,
     notation: &N,
     out: &mut O,
-) -> Result<Written, Cause>
+) -> Result<BoardsWritten, Cause>
     requires printed { N.has_printed notation.now [] }
     requires faults { O.faults out.old < 2 ^ 64 - 1 }
     ensures ends { (form : Form) → AcceptsNone plan.now form
@@ -28,7 +28,7 @@ pub(crate) fn write_no_board<N: Notation, O: Sink>(
         return Err(Cause::Output);
     }
     match notation.put_footer(plan.count(), out) {
-        Ok(()) => Ok(Written {
+        Ok(()) => Ok(BoardsWritten {
             candidates: plan.count(),
             boards: 0,
         }),

@@ -7,7 +7,7 @@ ghost use Rattle.requests.specs.Defaults.{workers_in};
 ghost use Rattle.deals_cli.specs.internal.Ends.{EndsFinding, EndsReady, finding_cause};
 
 use crate::workers::worked;
-use crate::written::{Written, write_plan};
+use crate::written::{BoardsWritten, write_plan};
 use boards::{Captions, Format};
 use cond_lang::Cond;
 use input::Source;
@@ -26,7 +26,7 @@ use std::thread::Threads;
 #[derive(Drop)]
 pub(crate) struct FoundNumbers {
     pub(crate) numbers: Vec<u64>,
-    pub(crate) written: Written,
+    pub(crate) written: BoardsWritten,
 }
 
 /// Why finding was interrupted, if this interrupted the run that writes the numbers to memory.

@@ -28,7 +28,7 @@ pub(crate) fn worked<R: Threads>(rt: &R, plan: &Plan, asked: Workers) -> Plan
                 Ok(cores) => cores.get(),
                 Err(_) => 1,
             };
-            plan.worked_by(workers_for(cores))
+            plan.with_workers(workers_for(cores))
         }
     }
 }

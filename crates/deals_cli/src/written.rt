@@ -17,7 +17,7 @@ use std::thread::Threads;
 
 /// How many candidates a run needed, and how many boards it wrote.
 #[derive(Clone, Copy, Drop)]
-pub(crate) struct Written {
+pub(crate) struct BoardsWritten {
     pub(crate) candidates: u64,
     pub(crate) boards: u64,
 }
@@ -31,7 +31,7 @@ pub(crate) fn write_plan<R: Threads + Wait + Clone + Send + 'static, N: Notation
     condition: Cond,
     notation: &mut N,
     out: &mut O,
-) -> Result<Written, Cause>
+) -> Result<BoardsWritten, Cause>
     requires printed { N.has_printed notation.old [] }
     requires faults { O.faults out.old < 2 ^ 64 - 1 }
     ensures ends { EndsWritten (N.layout notation.old) plan.now condition result
@@ -45,7 +45,7 @@ pub(crate) fn write_plan<R: Threads + Wait + Clone + Send + 'static, N: Notation
         return Err(Cause::Memory);
     };
     match run_and_count(rt, alloc, plan, condition, notation, out, gate) {
-        Ok(counted) => Ok(Written {
+        Ok(counted) => Ok(BoardsWritten {
             candidates: counted.candidates,
             boards: counted.report.boards,
         }),

@@ -108,7 +108,7 @@ fn spelling_of(letter: char) -> Option<&'static str> {
 
 /// A number of a date, and how many digits it has.
 #[derive(Clone, Copy)]
-struct Part {
+struct DateNumber {
     value: u32,
     digits: u32,
 }
@@ -145,8 +145,8 @@ fn read_date(text: &str) -> Option<(u32, u32, u32)> {
 }
 
 /// The three numbers of a text, with a dot, a dash or a slash between them.
-fn read_parts(text: &str) -> Option<[Part; 3]> {
-    let mut parts = [Part {
+fn read_parts(text: &str) -> Option<[DateNumber; 3]> {
+    let mut parts = [DateNumber {
         value: 0,
         digits: 0,
     }; 3];
@@ -160,7 +160,7 @@ fn read_parts(text: &str) -> Option<[Part; 3]> {
         if at > 2 || digit > 9 || parts[at].digits > 3 {
             return None;
         }
-        parts[at] = Part {
+        parts[at] = DateNumber {
             value: parts[at]
                 .value
                 .saturating_mul(10)

@@ -32,7 +32,7 @@ use Rattle.input.specs.Texts.{after, begin_text, spelled}
 use Rattle.input.specs.Values.{date_in, label_in}
 use Rattle.input.specs.declared.records.game.Game.{Game}
 use Rattle.input.specs.declared.records.game.Told.{Told}
-use Rattle.input.specs.declared.records.kind.Kind.TheVariants.{Event, Site, Date, Board, Dealer, Vulnerable, Deal}
+use Rattle.input.specs.declared.records.kind.TagKind.TheVariants.{Event, Site, Date, Board, Dealer, Vulnerable, Deal}
 use Rattle.input.specs.internal.TagTexts.{IsTag}
 use Rattle.input.proofs.Dealt.{deal_again, deal_shown}
 use Rattle.input.proofs.Labels.{date_again, label_again}

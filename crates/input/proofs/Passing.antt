@@ -7,7 +7,7 @@ use Rattle.std.specs.Prelude.{OnOk}
 use Rattle.input.specs.RecordScans.{IsWithin, spells_from}
 use Rattle.input.specs.Texts.{after, list_of, refused_with}
 use Rattle.input.specs.declared.records.fault.RefusedRecord.{RefusedRecord}
-use Rattle.input.specs.declared.records.scanner.Scanner.{Scanner}
+use Rattle.input.specs.declared.records.scanner.RecordScanner.{RecordScanner}
 use Rattle.input.specs.internal.Endings.{told_if}
 use Rattle.input.specs.internal.TagTexts.{Reads, tag_text}
 use Rattle.input.proofs.Rooms.{roomier}
@@ -15,14 +15,14 @@ use Rattle.input.proofs.Tags.{tag_length}
 use Rattle.std.proofs.Math.Seq.{drop-append_seam}
 use Rattle.std.proofs.lemmas.List.{drop-drop, length-drop, take_rest}
 
-pub reads_none : (s : Scanner) (bytes : List ℕ) → Reads s s bytes 0 None
+pub reads_none : (s : RecordScanner) (bytes : List ℕ) → Reads s s bytes 0 None
 reads_none s bytes = record {
   within = omega arith;
   spells = λ rest. refl;
   room = λ n h. roomier s.reading (n + n) (n + 0 + (n + 0)) (omega arith) h;
 }
 
-pub reads_on : (s t u : Scanner) (bytes : List ℕ) (n m : ℕ) (board : Option Told) → Reads s t bytes n None
+pub reads_on : (s t u : RecordScanner) (bytes : List ℕ) (n m : ℕ) (board : Option Told) → Reads s t bytes n None
     → Reads t u (take (length bytes - n) (drop n bytes)) m board → Reads s u bytes (n + m) board
 reads_on s t u bytes n m board p r =
     let q : Reads t u (drop n bytes) m board = rw (take_rest bytes n) at r in
@@ -32,7 +32,7 @@ reads_on s t u bytes n m board p r =
       room = λ k h. roomier u.reading (k + n + m + (k + n + m)) (k + (n + m) + (k + (n + m))) (omega arith) (q.room (k + n) (p.room k h));
     }
 
-pub reads_byte : (s t : Scanner) (b : ℕ) (bytes : List ℕ) (board : Option Told) → 0 < length bytes → b ≡ get_or bytes 0 0
+pub reads_byte : (s t : RecordScanner) (b : ℕ) (bytes : List ℕ) (board : Option Told) → 0 < length bytes → b ≡ get_or bytes 0 0
     → ((rest : List ℕ) → spells_from s (b ∷ rest) ≡ after (list_of board) (spells_from t rest))
     → ((n : ℕ) → IsWithin s n → IsWithin t (n + 1)) → Reads s t bytes 1 board
 reads_byte s t b [] board some is reads room = absurd (let none : 0 < 0 = some in omega arith)
@@ -45,7 +45,7 @@ reads_byte s t b (x ∷ bytes) board some is reads room = record {
 next_one : (b : ℕ) (bytes : List ℕ) (i : ℕ) → i < length bytes → b ≡ get_or bytes i 0 → drop i bytes ≡ b ∷ drop (i + 1) bytes
 next_one b bytes i below is = drop-cons bytes i 0 below ∙ rw (is, add-one) refl
 
-pub reads_passed : (s t u : Scanner) (b : ℕ) (bytes : List ℕ) (i : ℕ) → i < length bytes → b ≡ get_or bytes i 0 → Reads s t bytes i None
+pub reads_passed : (s t u : RecordScanner) (b : ℕ) (bytes : List ℕ) (i : ℕ) → i < length bytes → b ≡ get_or bytes i 0 → Reads s t bytes i None
     → ((rest : List ℕ) → spells_from t (b ∷ rest) ≡ spells_from u rest) → ((n : ℕ) → IsWithin t n → IsWithin u (n + 1)) → Reads s u bytes (i + 1) None
 reads_passed s t u b bytes i below is p reads room = record {
   within = omega (arith, below);
@@ -55,19 +55,19 @@ reads_passed s t u b bytes i below is p reads room = record {
   room = λ n h. roomier u.reading (n + i + 1 + (n + i + 1)) (n + (i + 1) + (n + (i + 1))) (omega arith) (room (n + i) (p.room n h));
 }
 
-pub reads_refused : (s t : Scanner) (bytes : List ℕ) (n : ℕ) (e : RefusedRecord) → Reads s t bytes n None
+pub reads_refused : (s t : RecordScanner) (bytes : List ℕ) (n : ℕ) (e : RefusedRecord) → Reads s t bytes n None
     → ((rest : List ℕ) → spells_from t (take (length bytes - n) (drop n bytes) ++ rest) ≡ refused_with e)
     → (rest : List ℕ) → spells_from s (bytes ++ rest) ≡ refused_with e
 reads_refused s t bytes n e p refused rest = p.spells rest ∙ (rw (take_rest bytes n) at refused rest)
 
-pub first_read : (s t : Scanner) (told : Told) (b : ℕ) (bytes : List ℕ) (r : Result Bool RefusedRecord) → 0 < length bytes → b ≡ get_or bytes 0 0
+pub first_read : (s t : RecordScanner) (told : Told) (b : ℕ) (bytes : List ℕ) (r : Result Bool RefusedRecord) → 0 < length bytes → b ≡ get_or bytes 0 0
     → IfOk r (λ ended. (rest : List ℕ) → spells_from s (b ∷ rest) ≡ after (list_of (told_if ended told))
     (spells_from t rest)) → ((n : ℕ) → IsWithin s n → OnOk r (IsWithin t (n + 1)))
     → IfOk r (λ ended. Reads s t bytes 1 (told_if ended told))
 first_read s t told b bytes (Err e) some is reads room = tt
 first_read s t told b bytes (Ok ended) some is reads room = reads_byte s t b bytes (told_if ended told) some is reads room
 
-pub reads_line : (s t : Scanner) (name value after_it later : List ℕ) → after_it ≡ 10 ∷ later
+pub reads_line : (s t : RecordScanner) (name value after_it later : List ℕ) → after_it ≡ 10 ∷ later
     → ((rest : List ℕ) → spells_from s (tag_text name value ++ 10 ∷ rest) ≡ spells_from t rest)
     → ((n : ℕ) → IsWithin s n → IsWithin t (n + 1)) → Reads s t (tag_text name value ++ after_it) (length name + length value + 5 + 1) None
 reads_line s t name value after_it later is reads room =
@@ -86,7 +86,7 @@ reads_line s t name value after_it later is reads room =
           + (n + (length name + length value + 5 + 1))) (omega arith) (room n h);
     }
 
-pub reads_tag : (s t : Scanner) (name value after_it bytes : List ℕ) (board : Option Told) → bytes ≡ tag_text name value ++ after_it
+pub reads_tag : (s t : RecordScanner) (name value after_it bytes : List ℕ) (board : Option Told) → bytes ≡ tag_text name value ++ after_it
     → ((rest : List ℕ) → spells_from s (tag_text name value ++ rest) ≡ after (list_of board) (spells_from t rest))
     → ((n : ℕ) → IsWithin s n → IsWithin t (n + 1))
     → Reads s t bytes (length name + length value + 5) board

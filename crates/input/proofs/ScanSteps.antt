@@ -12,14 +12,14 @@ use Rattle.input.specs.Places.{is_empty, is_in_tag}
 use Rattle.input.specs.Texts.{Spelled, after, after_line, ends_game, ends_line, list_of, nothing_more, refused_with}
 use Rattle.input.specs.Texts.{says_and, takes_tag, with_last_tag}
 use Rattle.input.specs.declared.records.fault.RefusedRecord.{RefusedRecord}
-use Rattle.input.specs.declared.records.kind.Kind.{Kind}
+use Rattle.input.specs.declared.records.kind.TagKind.{TagKind}
 use Rattle.input.specs.declared.records.reading.Reading.{Reading}
 
 pub at_empty_line : (s : Reading) (next : Reading → Spelled) (v : Spelled) → is_in_tag s.line.part ≡ false → is_empty s.line ≡ true
     → ends_game s (λ t. next (after_line t)) ≡ v → ends_line s next ≡ v
 at_empty_line s next v off empty e = rw (off, empty) e
 
-pub at_such_tag : (kind : Kind) (s : Reading) (next : Reading → Spelled) (v : Spelled) → kind_of s.line.name ≡ Some kind → has kind s.game ≡ true
+pub at_such_tag : (kind : TagKind) (s : Reading) (next : Reading → Spelled) (v : Spelled) → kind_of s.line.name ≡ Some kind → has kind s.game ≡ true
     → ends_game s (λ t. next (with_last_tag kind t)) ≡ v → takes_tag (kind_of s.line.name) s next ≡ v
 at_such_tag kind s next v is such e = rw (is, such) e
 
@@ -31,12 +31,12 @@ not_none a b = ne_eqb (a + b + 5) 0 (λ e. omega (arith, e))
 past_tag : (t : Reading) (name value : List ℕ) (next : Reading → Spelled) → t.line ≡ after_tag name value → ends_line t next ≡ next (after_line t)
 past_tag t name value next is = rw (is, not_none (length name) (length value)) refl
 
-pub other_line : (s t : Reading) (kind : Option Kind) (name value : List ℕ) (next : Reading → Spelled) → kind ≡ None
+pub other_line : (s t : Reading) (kind : Option TagKind) (name value : List ℕ) (next : Reading → Spelled) → kind ≡ None
     → t ≡ after_line (with_place (after_tag name value) s)
     → takes_tag kind (with_place (after_tag name value) s) (λ u. ends_line u next) ≡ next t
 other_line s t kind name value next is left = rw (is, left) (past_tag (with_place (after_tag name value) s) name value next refl)
 
-pub line_with : (kind : Kind) (s u t : Reading) (told : Option Kind) (name value : List ℕ) (next : Reading → Spelled)
+pub line_with : (kind : TagKind) (s u t : Reading) (told : Option TagKind) (name value : List ℕ) (next : Reading → Spelled)
     → told ≡ Some kind → has kind s.game ≡ false
     → u ≡ record s { game = with_tag kind value (s.lines + 1) s.game } → t ≡ after_line (with_place (after_tag name value) u)
     → takes_tag told (with_place (after_tag name value) s) (λ v. ends_line v next) ≡ next t

@@ -6,8 +6,8 @@ use Rattle.input.specs.NumberTexts.{Said, first_line, later_lines, lines_say, nu
 use Rattle.input.specs.NumberTexts.{unless_blank, with_lf, with_line, without_last_blanks}
 use Rattle.input.specs.Scans.{HasScanned, ScannerView, after, digits_and, goes_on, line_from, list_of, number_and, said_from}
 use Rattle.input.specs.internal.Lines.{start_of_line}
-use Rattle.input.specs.declared.numbers.line.Part.{Part}
-use Rattle.input.specs.declared.numbers.line.Part.TheVariants.{Blank, Digits, Over}
+use Rattle.input.specs.declared.numbers.line.NumberPart.{NumberPart}
+use Rattle.input.specs.declared.numbers.line.NumberPart.TheVariants.{Blank, Digits, Over}
 use Rattle.plans.specs.declared.refusal.LineFault.TheVariants.{NotANumber}
 use Rattle.plans.specs.declared.refusal.RefusedLine.{RefusedLine}
 use Rattle.input.proofs.Scanned.{scanned_line}
@@ -25,7 +25,7 @@ behind_number : (value : ℕ) (l : List ℕ) → number_and value (unless_blank 
 behind_number value [] = refl
 behind_number value (x ∷ xs) = refl
 
-cr_stops : (part : Part) (value digits : ℕ) (rest : List ℕ) → goes_on part value digits (13 ∷ rest) ≡ Err NotANumber
+cr_stops : (part : NumberPart) (value digits : ℕ) (rest : List ℕ) → goes_on part value digits (13 ∷ rest) ≡ Err NotANumber
 cr_stops Blank value digits rest = in_blank (without_last_blanks rest)
 cr_stops Digits value digits rest = in_digits value digits (without_last_blanks rest)
 cr_stops Over value digits rest = behind_number value (without_last_blanks rest)

@@ -14,16 +14,16 @@ use Rattle.input.specs.Kinds.{kind_of}
 use Rattle.input.specs.Places.{is_name_byte}
 use Rattle.input.specs.RecordScans.{spells_from}
 use Rattle.input.specs.Texts.{Spelled, ends_line, takes_tag}
-use Rattle.input.specs.declared.records.kind.Kind.{Kind}
-use Rattle.input.specs.declared.records.scanner.Scanner.{Scanner}
-use Rattle.input.specs.declared.records.line.Part.{Part}
-use Rattle.input.specs.declared.records.line.Part.TheVariants.{Open, Bracket, Name, Gap, Value, Close}
+use Rattle.input.specs.declared.records.kind.TagKind.{TagKind}
+use Rattle.input.specs.declared.records.scanner.RecordScanner.{RecordScanner}
+use Rattle.input.specs.declared.records.line.LinePart.{LinePart}
+use Rattle.input.specs.declared.records.line.LinePart.TheVariants.{Open, Bracket, Name, Gap, Value, Close}
 use Rattle.input.specs.declared.records.reading.Reading.{Reading}
 use Rattle.input.specs.internal.TagTexts.{IsStart, IsTag, after_tag, is_plain, tag_text, with_place}
 use Rattle.input.proofs.Scanning.{at_byte, plainly}
 
 -- a line from within its tag
-abbrev at : Reading → Part → ℕ → List ℕ → List ℕ → Reading
+abbrev at : Reading → LinePart → ℕ → List ℕ → List ℕ → Reading
 at s part column name value = record s {
   line = record {
     part = part;
@@ -160,7 +160,7 @@ tag_read s (b ∷ bs) value rest start tag =
 
 -- ---- what calls return
 
-pub tag_passed : (s : Scanner) (t : Reading) (kind : Option Kind) (name value : List ℕ) → IsStart s.reading.line
+pub tag_passed : (s : RecordScanner) (t : Reading) (kind : Option TagKind) (name value : List ℕ) → IsStart s.reading.line
     → s.after_cr ≡ false → IsTag name value → kind ≡ kind_of name
     → ((next : Reading → Spelled) → takes_tag kind (with_place (after_tag name value) s.reading) next ≡ next t)
     → (rest : List ℕ) → spells_from s (tag_text name value ++ rest) ≡ spells_from (record { reading = t; after_cr = s.after_cr }) rest
@@ -170,12 +170,12 @@ tag_passed s t kind name value start plain tag is takes rest =
     ∙ takes (λ u. spells_from (plainly u) rest))
 
 -- the end of the line comes next
-then_lf : (kind : Option Kind) (s : Reading) (rest : List ℕ)
+then_lf : (kind : Option TagKind) (s : Reading) (rest : List ℕ)
     → takes_tag kind s (λ t. spells_from (plainly t) (10 ∷ rest)) ≡ takes_tag kind s (λ t. ends_line t (λ u. spells_from (plainly u) rest))
 unfolding spells_from
 then_lf kind s rest = refl
 
-pub line_passed : (s : Scanner) (t : Reading) (kind : Option Kind) (name value : List ℕ) → IsStart s.reading.line
+pub line_passed : (s : RecordScanner) (t : Reading) (kind : Option TagKind) (name value : List ℕ) → IsStart s.reading.line
     → s.after_cr ≡ false → IsTag name value → kind ≡ kind_of name
     → ((next : Reading → Spelled) → takes_tag kind (with_place (after_tag name value) s.reading) (λ u. ends_line u next) ≡ next t)
     → (rest : List ℕ) → spells_from s (tag_text name value ++ 10 ∷ rest) ≡ spells_from (record { reading = t; after_cr = s.after_cr }) rest

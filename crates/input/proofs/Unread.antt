@@ -8,7 +8,7 @@ use Rattle.input.specs.RecordScans.{IsWithin, spells_from}
 use Rattle.input.specs.Texts.{after, list_of, refused_with}
 use Rattle.input.specs.declared.records.fault.RefusedRecord.{RefusedRecord}
 use Rattle.input.specs.declared.records.reader.BoardReader.{BoardReader}
-use Rattle.input.specs.declared.records.scanner.Scanner.{Scanner}
+use Rattle.input.specs.declared.records.scanner.RecordScanner.{RecordScanner}
 use Rattle.input.specs.internal.Endings.{told_if}
 use Rattle.input.specs.internal.TagTexts.{Reads}
 
@@ -19,13 +19,13 @@ same_part piece from to within =
     let is : to ≡ from + (to - from) = omega (arith, within) in
     ap (λ n. drop from (take n piece)) is ∙ drop-take from (to - from) piece
 
-pub part_read : (s t : Scanner) (told : Told) (piece : List ℕ) (from to : ℕ) (r : Result (ℕ × Bool) RefusedRecord) → from ≤ to
+pub part_read : (s t : RecordScanner) (told : Told) (piece : List ℕ) (from to : ℕ) (r : Result (ℕ × Bool) RefusedRecord) → from ≤ to
     → IfOk r (λ q. Reads s t (take (to - from) (drop from piece)) q.0 (told_if q.1 told))
     → IfOk r (λ q. Reads s t (drop from (take to piece)) q.0 (told_if q.1 told))
 part_read s t told piece from to (Err e) within reads = tt
 part_read s t told piece from to (Ok q) within reads = subst (λ l. Reads s t l q.0 (told_if q.1 told)) (sym (same_part piece from to within)) reads
 
-pub part_refused : (s : Scanner) (piece : List ℕ) (from to : ℕ) (r : Result (ℕ × Bool) RefusedRecord) → from ≤ to
+pub part_refused : (s : RecordScanner) (piece : List ℕ) (from to : ℕ) (r : Result (ℕ × Bool) RefusedRecord) → from ≤ to
     → IfErr r (λ e. (rest : List ℕ) → spells_from s (take (to - from) (drop from piece) ++ rest) ≡ refused_with e)
     → IfErr r (λ e. (rest : List ℕ) → spells_from s (drop from (take to piece) ++ rest) ≡ refused_with e)
 part_refused s piece from to (Ok q) within reads = tt

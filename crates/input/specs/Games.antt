@@ -17,10 +17,10 @@ use Rattle.input.specs.declared.records.fault.RecordFault.TheVariants.{NotAVulne
 use Rattle.input.specs.declared.records.fault.RefusedRecord.{RefusedRecord}
 use Rattle.input.specs.declared.records.game.Game.{Game}
 use Rattle.input.specs.declared.records.game.Told.{Told}
-use Rattle.input.specs.declared.records.kind.Kind.{Kind}
-use Rattle.input.specs.declared.records.kind.Kind.TheVariants.{Event, Site, Date, Board, Dealer}
-use Rattle.input.specs.declared.records.kind.Kind.TheVariants.{Vulnerable, Deal}
-use Rattle.input.specs.declared.records.kind.Kind.TheVariants.{Tricks, Score, Contract}
+use Rattle.input.specs.declared.records.kind.TagKind.{TagKind}
+use Rattle.input.specs.declared.records.kind.TagKind.TheVariants.{Event, Site, Date, Board, Dealer}
+use Rattle.input.specs.declared.records.kind.TagKind.TheVariants.{Vulnerable, Deal}
+use Rattle.input.specs.declared.records.kind.TagKind.TheVariants.{Tricks, Score, Contract}
 
 abbrev pub no_game : Game
 no_game = record {
@@ -37,7 +37,7 @@ no_game = record {
   fault = None;
 }
 
-abbrev pub has : Kind → Game → Bool
+abbrev pub has : TagKind → Game → Bool
 has Event g = is_some g.event
 has Site g = is_some g.site
 has Date g = is_some g.date
@@ -82,7 +82,7 @@ with_deal value line g = record g {
 }
 
 -- the game with the tag of this kind and value, on this line
-unfoldable pub with_tag : Kind → List ℕ → ℕ → Game → Game
+unfoldable pub with_tag : TagKind → List ℕ → ℕ → Game → Game
 with_tag Event value line g = record g { event = Some (label_in value) }
 with_tag Site value line g = record g { site = Some (label_in value) }
 with_tag Date value line g = record g { date = Some (date_in value) }

@@ -1,11 +1,11 @@
 -- The names of the tags that say something of a board.
 use Rattle.std.specs.Prelude.{ℕ, List, Option, None, Some, bytes_eq, codes, if◌then◌else◌}
-use Rattle.input.specs.declared.records.kind.Kind.{Kind}
-use Rattle.input.specs.declared.records.kind.Kind.TheVariants.{Event, Site, Date, Board, Dealer}
-use Rattle.input.specs.declared.records.kind.Kind.TheVariants.{Vulnerable, Deal}
-use Rattle.input.specs.declared.records.kind.Kind.TheVariants.{Tricks, Score, Contract}
+use Rattle.input.specs.declared.records.kind.TagKind.{TagKind}
+use Rattle.input.specs.declared.records.kind.TagKind.TheVariants.{Event, Site, Date, Board, Dealer}
+use Rattle.input.specs.declared.records.kind.TagKind.TheVariants.{Vulnerable, Deal}
+use Rattle.input.specs.declared.records.kind.TagKind.TheVariants.{Tricks, Score, Contract}
 
-unfoldable pub kind_of : List ℕ → Option Kind
+unfoldable pub kind_of : List ℕ → Option TagKind
 kind_of name =
     if bytes_eq name (codes "Event") then Some Event
     else (if bytes_eq name (codes "Site") then Some Site

@@ -2,17 +2,17 @@
 use Rattle.std.specs.Prelude.{ℕ, ◌+◌, ◌==◌, ◌&&◌, ◌||◌, Bool, true, false, not}
 use Rattle.std.specs.Prelude.{List, [], ◌∷◌, ◌++◌, if◌then◌else◌}
 use Rattle.std.specs.Char.{is_ascii_alphanumeric}
-use Rattle.input.specs.declared.records.line.Part.{Part}
-use Rattle.input.specs.declared.records.line.Part.TheVariants.{Open, Rest, Bracket, Name, Gap, Value}
-use Rattle.input.specs.declared.records.line.Part.TheVariants.{Escape, Close}
-use Rattle.input.specs.declared.records.line.Step.{Step}
-use Rattle.input.specs.declared.records.line.Step.TheVariants.{On, Whole, Wrong}
+use Rattle.input.specs.declared.records.line.LinePart.{LinePart}
+use Rattle.input.specs.declared.records.line.LinePart.TheVariants.{Open, Rest, Bracket, Name, Gap, Value}
+use Rattle.input.specs.declared.records.line.LinePart.TheVariants.{Escape, Close}
+use Rattle.input.specs.declared.records.line.LineStep.{LineStep}
+use Rattle.input.specs.declared.records.line.LineStep.TheVariants.{On, Whole, Wrong}
 
 -- `skips`: all is skipped up to the next line that begins with `[`. `comment`: it is in braces.
 -- `column`: how many bytes of the line there were. `name`, `value`: those of the last tag, as far
 -- as they were read
 pub record Place : Type 0 where
-  pub part : Part
+  pub part : LinePart
   pub skips : Bool
   pub comment : Bool
   pub column : ℕ
@@ -61,12 +61,12 @@ opened p b =
 
 -- ---- in a tag: `[`, a name, blanks, `"`, a value, `"`, blanks, `]`
 
-abbrev pub is_in_tag : Part → Bool
+abbrev pub is_in_tag : LinePart → Bool
 is_in_tag Open = false
 is_in_tag Rest = false
 is_in_tag _ = true
 
-abbrev pub step_at : Part → ℕ → Step
+abbrev pub step_at : LinePart → ℕ → LineStep
 step_at Bracket b = if is_name_byte b then On else Wrong
 step_at Name b = if is_name_byte b || (b == 34 || is_blank b) then On else Wrong
 step_at Gap b = if b == 34 || is_blank b then On else Wrong
@@ -74,7 +74,7 @@ step_at Close b = if b == 93 then Whole else (if is_blank b then On else Wrong)
 step_at _ b = On
 
 -- `\` takes the next byte with it. No value that says something has one, so that it stays
-abbrev pub moved : Part → Place → ℕ → Place
+abbrev pub moved : LinePart → Place → ℕ → Place
 moved Open p b = opened p b
 moved Rest p b = p
 moved Bracket p b = record p { part = Name; name = b ∷ [] }

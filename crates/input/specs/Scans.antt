@@ -7,14 +7,14 @@ use Rattle.input.specs.NumberTexts.{Said, are_digits, ended, first_line}
 use Rattle.input.specs.NumberTexts.{later_lines, line_says}
 use Rattle.input.specs.NumberTexts.{lines_say, number_in, said, with_lf, with_line}
 use Rattle.input.specs.NumberTexts.{without_last_blanks}
-use Rattle.input.specs.declared.numbers.line.Part.{Part}
-use Rattle.input.specs.declared.numbers.line.Part.TheVariants.{Blank, Digits, Over}
+use Rattle.input.specs.declared.numbers.line.NumberPart.{NumberPart}
+use Rattle.input.specs.declared.numbers.line.NumberPart.TheVariants.{Blank, Digits, Over}
 use Rattle.plans.specs.declared.refusal.LineFault.{LineFault}
 use Rattle.plans.specs.declared.refusal.LineFault.TheVariants.{NotANumber}
 
 -- how far a line was read: this many digits, and the number that they write
 pub record LineView : Type 0 where
-  pub part : Part
+  pub part : NumberPart
   pub value : ℕ
   pub digits : ℕ
 
@@ -28,7 +28,7 @@ abbrev pub number_and : ℕ → List ℕ → Result (Option ℕ) LineFault
 number_and value [] = number_in value
 number_and value (b ∷ bs) = Err NotANumber
 
-abbrev pub goes_on : Part → ℕ → ℕ → List ℕ → Result (Option ℕ) LineFault
+abbrev pub goes_on : NumberPart → ℕ → ℕ → List ℕ → Result (Option ℕ) LineFault
 goes_on Blank value digits rest = line_says rest
 goes_on Digits value digits rest = digits_and value digits (without_last_blanks rest)
 goes_on Over value digits rest = number_and value (without_last_blanks rest)

@@ -12,9 +12,9 @@ use Rattle.input.specs.declared.records.fault.RecordFault.{RecordFault}
 use Rattle.input.specs.declared.records.fault.RecordFault.TheVariants.{NotATag, TooLong}
 use Rattle.input.specs.declared.records.fault.RefusedRecord.{RefusedRecord}
 use Rattle.input.specs.declared.records.game.Told.{Told}
-use Rattle.input.specs.declared.records.kind.Kind.{Kind}
-use Rattle.input.specs.declared.records.line.Step.{Step}
-use Rattle.input.specs.declared.records.line.Step.TheVariants.{On, Whole, Wrong}
+use Rattle.input.specs.declared.records.kind.TagKind.{TagKind}
+use Rattle.input.specs.declared.records.line.LineStep.{LineStep}
+use Rattle.input.specs.declared.records.line.LineStep.TheVariants.{On, Whole, Wrong}
 use Rattle.input.specs.declared.records.reading.Reading.{Reading}
 
 -- the boards of the games that end before the line that is refused, and that one, if there is one
@@ -52,17 +52,17 @@ abbrev pub ends_game : Reading → (Reading → Spelled) → Spelled
 ends_game s next = says_and s (game_says s.last s.game) next
 
 -- a tag ends: a game that has such a tag ends before it
-abbrev pub with_last_tag : Kind → Reading → Reading
+abbrev pub with_last_tag : TagKind → Reading → Reading
 with_last_tag kind s = record s { game = with_tag kind s.line.value (s.lines + 1) s.game }
 
-abbrev pub takes_tag : Option Kind → Reading → (Reading → Spelled) → Spelled
+abbrev pub takes_tag : Option TagKind → Reading → (Reading → Spelled) → Spelled
 takes_tag None s next = next s
 takes_tag (Some kind) s next =
     if has kind s.game then ends_game s (λ t. next (with_last_tag kind t))
     else next (with_last_tag kind s)
 
 -- a byte of a line
-abbrev pub steps : Step → Reading → (Reading → Spelled) → Spelled
+abbrev pub steps : LineStep → Reading → (Reading → Spelled) → Spelled
 steps On s next = next s
 steps Whole s next = takes_tag (kind_of s.line.name) s next
 steps Wrong s next = refused_at s NotATag

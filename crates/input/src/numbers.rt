@@ -13,4 +13,4 @@ mod scanner;
 pub use fault::PickFault;
 pub use picked::pick;
 pub use plans::{LineFault, RefusedLine};
-pub use scanner::Scanner;
+pub use scanner::NumberScanner;

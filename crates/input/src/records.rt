@@ -20,9 +20,9 @@ mod watched;
 
 pub use fault::{RecordFault, RefusedRecord};
 pub use game::{Game, Told};
-pub use kind::Kind;
-pub use line::{Part, Step};
+pub use kind::TagKind;
+pub use line::{LinePart, LineStep};
 pub use reader::{BoardReader, Next, ReadFault};
-pub use scanner::Scanner;
+pub use scanner::RecordScanner;
 pub use shown::{ShowFault, show};
 pub use values::Short;

@@ -17,7 +17,7 @@
 ghost use Rattle.std.specs.Prelude.{◌≡◌, ◌<◌, true};
 
 use crate::load::Load;
-use crate::signals::{Side, Signals};
+use crate::signals::{LaneEnd, Signals};
 use crate::wait::Pace;
 use std::sync::Wait;
 use std::{hint, thread};
@@ -187,7 +187,7 @@ impl Habit {
 
 /// How far an end that waits has come.
 #[derive(Clone, Copy, Drop)]
-enum Stage {
+enum WaitStage {
     /// It spins between two looks.
     Spins,
     /// It yields between two looks.
@@ -202,7 +202,7 @@ enum Stage {
 /// progress, and yields or sleeps once that stopped and its patience is used up.
 #[derive(Drop)]
 pub(crate) struct Pause {
-    side: Side,
+    side: LaneEnd,
     pace: Pace,
     spins: usize,
     enough: usize,
@@ -211,13 +211,19 @@ pub(crate) struct Pause {
     yields: u32,
     /// Whether it yields although the machine counts as busy.
     tries: bool,
-    stage: Stage,
+    stage: WaitStage,
     habit: Habit,
 }
 
 impl Pause {
     /// The pauses at a ring of this capacity, of the end on this side.
-    pub(crate) fn new(side: Side, capacity: usize, pace: Pace, habit: Habit, load: &Load) -> Pause {
+    pub(crate) fn new(
+        side: LaneEnd,
+        capacity: usize,
+        pace: Pace,
+        habit: Habit,
+        load: &Load,
+    ) -> Pause {
         let is_busy = load.is_high();
         let tries = is_busy && habit.yields.is_due();
         let (enough, patience) = match pace {
@@ -238,7 +244,7 @@ impl Pause {
             patience,
             yields: 0,
             tries,
-            stage: Stage::Spins,
+            stage: WaitStage::Spins,
             habit,
         }
     }
@@ -254,20 +260,22 @@ impl Pause {
             return;
         }
         self.stage = match self.stage {
-            Stage::Listens => {
+            WaitStage::Listens => {
                 signals.bell(self.side).sleep(rt);
-                Stage::Slept
+                WaitStage::Slept
             }
-            Stage::Spins | Stage::Yields | Stage::Slept => self.yield_or_listen(signals),
+            WaitStage::Spins | WaitStage::Yields | WaitStage::Slept => self.yield_or_listen(
+                signals,
+            ),
         };
     }
 
     /// Lets other threads run, or says that the end listens for its bell.
-    fn yield_or_listen(&mut self, signals: &Signals) -> Stage {
+    fn yield_or_listen(&mut self, signals: &Signals) -> WaitStage {
         let sleeps = matches!(self.pace, Pace::Sleeps) || self.yields >= YIELDS_IN_VAIN;
         if sleeps || (signals.load.is_high() && !self.tries) {
             signals.bell(self.side).listen();
-            return Stage::Listens;
+            return WaitStage::Listens;
         }
         let before = signals.spins(self.side.other());
         thread::yield_now();
@@ -277,7 +285,7 @@ impl Pause {
             signals.load.note_quiet();
         }
         self.note_yield(&signals.load, meanwhile >= LONG_YIELD);
-        Stage::Yields
+        WaitStage::Yields
     }
 
     /// Notes a yield that took long, or not.
@@ -303,22 +311,22 @@ impl Pause {
         if stands_still {
             self.patience = self.patience.saturating_sub(self.spins);
         }
-        let is_all = stands_still || matches!(self.stage, Stage::Slept);
+        let is_all = stands_still || matches!(self.stage, WaitStage::Slept);
         count > 0 && (is_all || count >= self.enough)
     }
 
     /// Ends the wait. Returns what its end keeps for the next one.
     pub(crate) fn end(&self, signals: &Signals) -> Habit {
         match self.stage {
-            Stage::Yields => signals.load.note_short(),
-            Stage::Listens => {
+            WaitStage::Yields => signals.load.note_short(),
+            WaitStage::Listens => {
                 signals.bell(self.side).stop_listening();
                 signals.load.note_wait();
             }
-            Stage::Spins | Stage::Slept => signals.load.note_wait(),
+            WaitStage::Spins | WaitStage::Slept => signals.load.note_wait(),
         }
         match self.stage {
-            Stage::Slept => self.habit.after_sleep(),
+            WaitStage::Slept => self.habit.after_sleep(),
             _ if self.tries => self.habit.after_yields(signals.load.is_high()),
             _ => self.habit.after_spins(),
         }

@@ -7,17 +7,17 @@ use std::sync::atomic::{AtomicU64, Ordering};
 
 /// One of a lane's two ends.
 #[derive(Clone, Copy, Drop)]
-pub(crate) enum Side {
+pub(crate) enum LaneEnd {
     Worker,
     Writer,
 }
 
-impl Side {
+impl LaneEnd {
     /// The other end.
-    pub(crate) fn other(self) -> Side {
+    pub(crate) fn other(self) -> LaneEnd {
         match self {
-            Side::Worker => Side::Writer,
-            Side::Writer => Side::Worker,
+            LaneEnd::Worker => LaneEnd::Writer,
+            LaneEnd::Writer => LaneEnd::Worker,
         }
     }
 }
@@ -55,30 +55,30 @@ impl Signals {
     }
 
     /// What wakes the end on this side.
-    pub(crate) fn bell(&self, side: Side) -> &Bell {
+    pub(crate) fn bell(&self, side: LaneEnd) -> &Bell {
         match side {
-            Side::Worker => &self.worker,
-            Side::Writer => &self.writer,
+            LaneEnd::Worker => &self.worker,
+            LaneEnd::Writer => &self.writer,
         }
     }
 
     /// How many spins the end on this side waited so far, modulo 2^64.
-    pub(crate) fn spins(&self, side: Side) -> u64 {
+    pub(crate) fn spins(&self, side: LaneEnd) -> u64 {
         self.counter(side).load(Ordering::SeqCst)
     }
 
     /// Counts spins of the end on this side, which alone calls it.
-    pub(crate) fn count_spins(&self, side: Side, spins: u64) {
+    pub(crate) fn count_spins(&self, side: LaneEnd, spins: u64) {
         let counter = self.counter(side);
         let before = counter.load(Ordering::SeqCst);
         counter.store(before.wrapping_add(spins), Ordering::SeqCst);
     }
 
     /// The counter of the spins on this side.
-    fn counter(&self, side: Side) -> &AtomicU64 {
+    fn counter(&self, side: LaneEnd) -> &AtomicU64 {
         match side {
-            Side::Worker => &self.worker_spins,
-            Side::Writer => &self.writer_spins,
+            LaneEnd::Worker => &self.worker_spins,
+            LaneEnd::Writer => &self.writer_spins,
         }
     }
 }

@@ -21,7 +21,7 @@ mod table;
 use crate::names::{seat_name, vulnerable_name};
 use boards::{Board, Show, SuitLetters, TextBuffer, Tricks, Vul};
 use cards::{Hand, Seat};
-pub(crate) use header::{Look, put_header};
+pub(crate) use header::{PageLook, put_header};
 pub(crate) use parts::put_suits;
 pub(crate) use style::{
     number_style, page_style, put_title_style, sign_style, table_style, vulnerable_style,

@@ -7,7 +7,7 @@ ghost use Rattle.boards.specs.TricksLines.{nothing_known};
 ghost use Rattle.boards.specs.Captions.{captions_in};
 ghost use Rattle.notations.specs.internal.Pens.{footer_after, format_of};
 
-use crate::page::Look;
+use crate::page::PageLook;
 use crate::pen::Pen;
 use crate::shown::{beside, is_all};
 use crate::table::Table;
@@ -254,9 +254,9 @@ fn put_header(text: &mut TextBuffer, format: Format, heading: &Captions)
     match format {
         Format::Pbn => text.put(&HEADER),
         Format::Hands => hands::put_header(text, heading),
-        Format::Html => page::put_header(text, Look::Plain, heading),
-        Format::Sheet => page::put_header(text, Look::Sheet, heading),
-        Format::Slips => page::put_header(text, Look::Slips, heading),
+        Format::Html => page::put_header(text, PageLook::Plain, heading),
+        Format::Sheet => page::put_header(text, PageLook::Sheet, heading),
+        Format::Slips => page::put_header(text, PageLook::Slips, heading),
         Format::Lin | Format::Json | Format::Numbers => {}
     }
 }
@@ -267,7 +267,7 @@ fn put_header_with_tricks(text: &mut TextBuffer, format: Format, heading: &Capti
     ensures { text.new ≡ header_with_tricks format heading.now }
 {
     match format {
-        Format::Html => page::put_header(text, Look::Tricks, heading),
+        Format::Html => page::put_header(text, PageLook::Tricks, heading),
         _ => put_header(text, format, heading),
     }
 }

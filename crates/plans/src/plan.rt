@@ -146,7 +146,7 @@ impl Plan {
     ///
     /// # Errors
     /// `Boards` if the limit is 0.
-    pub fn limited(self, most: u32) -> Result<Plan, PlanError>
+    pub fn with_limit(self, most: u32) -> Result<Plan, PlanError>
         ensures some { IsErr result ↔ (most ≡ 0) }
         ensures made { IfOk result (λ p. p ≡ record self { limit = Some most }) }
         ensures refused { IfErr result (λ e. e ≡ PlanError.Boards) }
@@ -164,7 +164,7 @@ impl Plan {
     ///
     /// # Errors
     /// `FirstBoard` unless the number is 1 to 2^40.
-    pub fn numbered(self, first_board: u64) -> Result<Plan, PlanError>
+    pub fn with_first_board(self, first_board: u64) -> Result<Plan, PlanError>
         ensures in_range { IsOk result ↔ ((0 < first_board) × (first_board ≤ 2 ^ 40)) }
         ensures made { IfOk result (λ p. p ≡ record self { first_board = first_board }) }
         ensures refused { IfErr result (λ e. e ≡ PlanError.FirstBoard) }
@@ -179,7 +179,7 @@ impl Plan {
     }
 
     /// The plan with this number of workers.
-    pub fn worked_by(self, workers: u32) -> Plan
+    pub fn with_workers(self, workers: u32) -> Plan
         requires { (0 < workers) × (workers ≤ 16) }
         ensures { result ≡ record self { workers = workers } }
     {
@@ -187,21 +187,21 @@ impl Plan {
     }
 
     /// The plan with the labels of each game.
-    pub fn headed(self, heading: Heading) -> Plan
+    pub fn with_heading(self, heading: Heading) -> Plan
         ensures { result ≡ record self { heading = heading } }
     {
         Plan { heading, ..self }
     }
 
     /// The plan with what replaces Law 2, and whether deals are turned.
-    pub fn set(self, setting: Setting) -> Plan
+    pub fn with_setting(self, setting: Setting) -> Plan
         ensures { result ≡ record self { setting = setting } }
     {
         Plan { setting, ..self }
     }
 
     /// The plan with its candidates dealt around these cards.
-    pub fn around(self, fixed: Fixed) -> Plan
+    pub fn with_fixed(self, fixed: Fixed) -> Plan
         ensures { result ≡ record self { fixed = fixed } }
     {
         Plan { fixed, ..self }

@@ -22,7 +22,7 @@ pub struct PlainFault {
 
 /// How many boards were written, and how many candidates were tried for them.
 #[derive(Clone, Copy)]
-struct Counts {
+struct RunCounts {
     boards: u64,
     tried: u64,
 }
@@ -33,7 +33,7 @@ fn write_accepted<N: Notation, S: Sink>(
     cond: &Cond,
     notation: &mut N,
     sink: &mut S,
-) -> Result<Counts, PlainFault>
+) -> Result<RunCounts, PlainFault>
     requires faults { S.faults sink.old < 2 ^ 64 - 1 }
     requires printed { N.has_printed notation.old [] }
     ensures layout { N.layout notation.new ≡ N.layout notation.old }
@@ -69,7 +69,7 @@ fn write_accepted<N: Notation, S: Sink>(
         }
         tried = place + 1;
     }
-    Ok(Counts { boards, tried })
+    Ok(RunCounts { boards, tried })
 }
 
 /// Tries the plan's candidates in order, and writes the header, the boards of those that meet the
@@ -95,7 +95,7 @@ pub fn run_plain_in<N: Notation, S: Sink>(
     ensures faults { CountsFault (S.faults sink.old) (S.faults sink.new) result }
 {
     match write_accepted(plan, cond, notation, sink) {
-        Ok(Counts { boards, tried }) => match notation.put_footer(tried, sink) {
+        Ok(RunCounts { boards, tried }) => match notation.put_footer(tried, sink) {
             Ok(()) => Ok(boards),
             Err(_) => Err(PlainFault { boards }),
         },

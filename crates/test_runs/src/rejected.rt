@@ -49,7 +49,7 @@ fn fixed_at(cards: &[usize], seat: Seat) -> Result<Fixed, &'static str> {
 /// The work on every second one of the candidates, from the second on.
 fn job(cond: &Cond, fixed: Fixed) -> Result<JobAround, Fail> {
     let plan = Plan::new(SEED, 0, 2 * COUNT, 2, 1).ok().ok_or("a plan")?;
-    Ok(JobAround::of(&plan.around(fixed), cond, 1)?)
+    Ok(JobAround::of(&plan.with_fixed(fixed), cond, 1)?)
 }
 
 /// Works the whole job.

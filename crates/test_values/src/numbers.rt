@@ -1,7 +1,7 @@
 //! Texts of numbers, and what they say.
 
 use crate::support::same;
-use input::numbers::{LineFault, RefusedLine, Scanner};
+use input::numbers::{LineFault, NumberScanner, RefusedLine};
 use input::{NoBytes, Reader, Source, SourceFault};
 use std::alloc::{AllocError, Global};
 use std::io::{self, Error, ErrorKind, Read};
@@ -10,7 +10,7 @@ use std::test::Fail;
 
 /// The numbers of a text, and the line that is refused.
 fn scan(alloc: Global, text: &[u8]) -> Result<(Vec<u64>, Option<RefusedLine>), AllocError> {
-    let mut scanner = Scanner::new();
+    let mut scanner = NumberScanner::new();
     let mut numbers = Vec::new(alloc);
     for byte in text {
         match scanner.take(*byte) {

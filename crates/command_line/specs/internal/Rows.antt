@@ -3,7 +3,7 @@ use Rattle.std.specs.Prelude.{fold, map}
 use Rattle.clap.specs.Simple.{Shape}
 use Rattle.clap.specs.Words.{App, Rule, Text, with_rule}
 use Rattle.clap.specs.declared.builder.value_parser.ValueParser.TheVariants.{String}
-use Rattle.command_line.specs.declared.rows.Row.{Row}
+use Rattle.command_line.specs.declared.rows.OptionRow.{OptionRow}
 use Rattle.command_line.specs.declared.subcommands.SubcommandRow.{SubcommandRow}
 use Rattle.command_line.specs.declared.rows.Takes.{Takes}
 use Rattle.command_line.specs.declared.rows.Takes.TheVariants as kinds
@@ -22,7 +22,7 @@ taking (kinds.U32 _ _) id = option_rule id u32_parser
 taking (kinds.U64 _) id = option_rule id u64_parser
 taking (kinds.Count _) id = option_rule id count_parser
 
-abbrev pub rule_for : Row → Rule
+abbrev pub rule_for : OptionRow → Rule
 rule_for row =
     record (taking row.takes row.id.now) { required = row.is_required; short = row.short }
 

@@ -7,22 +7,22 @@ ghost use Rattle.command_line.specs.options.Look.{has_unknown_look, is_turned, l
 ghost use Rattle.command_line.specs.options.Look.{show_in, shown_look};
 ghost use Rattle.requests.specs.Requests.{look_of};
 
-use crate::given::{Choice, Unknown, choice, is_set, text_in, u64_in};
+use crate::given::{OptionWords, Unknown, choice, is_set, text_in, u64_in};
 use crate::helps::Section;
-use crate::rows::{Row, Takes, optional};
+use crate::rows::{OptionRow, Takes, optional};
 use boards::{FORMAT_HELP, FORMAT_WORDS, FORMATS, SHOW_WORDS, SHOWS, Seats, Show, Vul};
 use cards::Seat;
 use clap::ArgMatches;
 use requests::{Format, Look};
 
-pub(crate) const FORMAT_ROWS: &[Row] = &[optional! { 'f' "format" Takes::Word("FORMAT") }];
+pub(crate) const FORMAT_ROWS: &[OptionRow] = &[optional! { 'f' "format" Takes::Word("FORMAT") }];
 
-pub(crate) const SHOW_ROWS: &[Row] = &[
+pub(crate) const SHOW_ROWS: &[OptionRow] = &[
     optional! { "show" Takes::Word("WHO") },
     optional! { "points" Takes::Word("WHETHER") },
 ];
 
-pub(crate) const BOARD_ROWS: &[Row] = &[
+pub(crate) const BOARD_ROWS: &[OptionRow] = &[
     optional! { "tricks" Takes::Nothing },
     optional! { "dealer" Takes::Word("SEAT") },
     optional! { "vulnerable" Takes::Word("SIDES") },
@@ -30,7 +30,7 @@ pub(crate) const BOARD_ROWS: &[Row] = &[
     optional! { "first-board" Takes::U64("B") },
 ];
 
-pub(crate) const TEXT_ROWS: &[Row] = &[
+pub(crate) const TEXT_ROWS: &[OptionRow] = &[
     optional! { "event" Takes::Text("TEXT") },
     optional! { "site" Takes::Text("TEXT") },
     optional! { "date" Takes::Text("DATE") },
@@ -103,29 +103,29 @@ board]",
     },
 ];
 
-pub(crate) static FORMAT: Choice<Format> = Choice {
+pub(crate) static FORMAT: OptionWords<Format> = OptionWords {
     id: "format",
     values: FORMAT_WORDS,
     table: FORMATS,
 };
 
-static SHOW: Choice<Seats> = Choice {
+static SHOW: OptionWords<Seats> = OptionWords {
     id: "show",
     values: SHOW_WORDS,
     table: SHOWS,
 };
 
-static POINTS: Choice<bool> = Choice {
+static POINTS: OptionWords<bool> = OptionWords {
     id: "points",
     values: "show, hide",
     table: boards::POINTS,
 };
 
-static DEALER: Choice<Seat> = choice! { "dealer"
+static DEALER: OptionWords<Seat> = choice! { "dealer"
     "N" => Seat::North, "E" => Seat::East, "S" => Seat::South, "W" => Seat::West
 };
 
-static VULNERABLE: Choice<Vul> = choice! { "vulnerable"
+static VULNERABLE: OptionWords<Vul> = choice! { "vulnerable"
     "None" => Vul::Neither, "NS" => Vul::NorthSouth, "EW" => Vul::EastWest, "All" => Vul::Both
 };
 

@@ -4,20 +4,20 @@ ghost use Rattle.std.specs.Prelude.{◌≡◌, codes, is_some};
 ghost use Rattle.clap.specs.Words.{found_of, rows_of};
 ghost use Rattle.command_line.specs.options.Notices.{has_unknown_time, notices_in, when_in};
 
-use crate::given::{Choice, Unknown, choice, is_set};
+use crate::given::{OptionWords, Unknown, choice, is_set};
 use crate::helps::Section;
-use crate::rows::{Row, Takes, optional};
+use crate::rows::{OptionRow, Takes, optional};
 use clap::ArgMatches;
 use requests::{Notices, When};
 
-pub(crate) const REPORT_ROWS: &[Row] = &[optional! { "report" Takes::Nothing }];
+pub(crate) const REPORT_ROWS: &[OptionRow] = &[optional! { "report" Takes::Nothing }];
 
-pub(crate) const PROGRESS_ROWS: &[Row] = &[optional! { "progress" Takes::Word("WHEN") }];
+pub(crate) const PROGRESS_ROWS: &[OptionRow] = &[optional! { "progress" Takes::Word("WHEN") }];
 
-pub(crate) const HINTS_ROWS: &[Row] = &[optional! { "hints" Takes::Word("WHEN") }];
+pub(crate) const HINTS_ROWS: &[OptionRow] = &[optional! { "hints" Takes::Word("WHEN") }];
 
 /// The flag for help, which each command has.
-pub(crate) const HELP_ROWS: &[Row] = &[optional! { 'h' "help" Takes::Help }];
+pub(crate) const HELP_ROWS: &[OptionRow] = &[optional! { 'h' "help" Takes::Help }];
 
 const SAID: &str = "What is said";
 
@@ -50,11 +50,11 @@ terminal [default: auto]
     },
 ];
 
-static PROGRESS: Choice<When> = choice! { "progress"
+static PROGRESS: OptionWords<When> = choice! { "progress"
     "auto" => When::Auto, "always" => When::Always, "never" => When::Never
 };
 
-static HINTS: Choice<When> = choice! { "hints"
+static HINTS: OptionWords<When> = choice! { "hints"
     "auto" => When::Auto, "always" => When::Always, "never" => When::Never
 };
 

@@ -7,15 +7,15 @@ ghost use Rattle.command_line.specs.internal.Readings.{StreamValues};
 
 use crate::given::{u32_in, u64_in};
 use crate::helps::Section;
-use crate::rows::{Row, Takes, optional, required};
+use crate::rows::{OptionRow, Takes, optional, required};
 use clap::ArgMatches;
 use requests::StreamRequest;
 
 /// The name of a lesson.
-pub(crate) const NAME_ROWS: &[Row] = &[optional! { "name" Takes::Value("NAME") }];
+pub(crate) const NAME_ROWS: &[OptionRow] = &[optional! { "name" Takes::Value("NAME") }];
 
 /// How many values.
-pub(crate) const COUNT_ROWS: &[Row] = &[required! { "count" Takes::Count("N") }];
+pub(crate) const COUNT_ROWS: &[OptionRow] = &[required! { "count" Takes::Count("N") }];
 
 const OPTIONS: &str = "Options";
 

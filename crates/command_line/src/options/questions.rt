@@ -6,16 +6,16 @@ ghost use Rattle.command_line.specs.options.Questions.{has_by_alone, has_extra, 
 ghost use Rattle.command_line.specs.options.Questions.{questions_from, questions_in, style_in};
 ghost use Rattle.requests.specs.Requests.{questions_of};
 
-use crate::given::{Choice, text_in};
+use crate::given::{OptionWords, text_in};
 use crate::helps::Section;
 use crate::refusals::{COLUMNS_OF_SEVERAL, TOO_MANY};
-use crate::rows::{Row, Takes, optional};
+use crate::rows::{OptionRow, Takes, optional};
 use boards::{STYLE_WORDS, STYLES};
 use clap::ArgMatches;
 use requests::{MAX_QUESTIONS, Questions, Style, Texts};
 
 /// The questions, and the format of their table.
-pub(crate) const QUESTION_ROWS: &[Row] = &[
+pub(crate) const QUESTION_ROWS: &[OptionRow] = &[
     optional! { "of" Takes::Texts("TEXT") },
     optional! { "by" Takes::Text("TEXT") },
     optional! { 'f' "format" Takes::Word("FORMAT") },
@@ -45,7 +45,7 @@ spreadsheets, html for a page, json for programs
 ];
 
 /// The format of `count`.
-pub(crate) static STYLE: Choice<Style> = Choice {
+pub(crate) static STYLE: OptionWords<Style> = OptionWords {
     id: "format",
     values: STYLE_WORDS,
     table: STYLES,

@@ -12,15 +12,15 @@ ghost use Rattle.requests.specs.Requests.{search_of};
 use crate::given::{text_in, u32_in, u64_in};
 use crate::helps::Section;
 use crate::lesson_names::lesson_in;
-use crate::rows::{Row, Takes, optional, required};
+use crate::rows::{OptionRow, Takes, optional, required};
 use cards::MAX_CAPACITY;
 use clap::ArgMatches;
 use requests::lessons::Lesson;
 use requests::{PredealtHands, Search, Workers};
 
-pub(crate) const SEED_ROWS: &[Row] = &[required! { 's' "seed" Takes::U32("S", u32::MAX) }];
+pub(crate) const SEED_ROWS: &[OptionRow] = &[required! { 's' "seed" Takes::U32("S", u32::MAX) }];
 
-pub(crate) const SEARCH_ROWS: &[Row] = &[
+pub(crate) const SEARCH_ROWS: &[OptionRow] = &[
     optional! { "lesson" Takes::Word("NAME") },
     optional! { 'w' "where" Takes::Text("TEXT") },
     optional! { "let" Takes::Text("TEXT") },
@@ -29,14 +29,14 @@ pub(crate) const SEARCH_ROWS: &[Row] = &[
     optional! { "first" Takes::U64("K") },
 ];
 
-pub(crate) const HAND_ROWS: &[Row] = &[
+pub(crate) const HAND_ROWS: &[OptionRow] = &[
     optional! { "north" Takes::Text("HAND") },
     optional! { "east" Takes::Text("HAND") },
     optional! { "south" Takes::Text("HAND") },
     optional! { "west" Takes::Text("HAND") },
 ];
 
-pub(crate) const SPEED_ROWS: &[Row] = &[
+pub(crate) const SPEED_ROWS: &[OptionRow] = &[
     optional! { "workers" Takes::Workers("W") },
     optional! { "lane" Takes::U32("C", MAX_CAPACITY) },
 ];

@@ -42,7 +42,7 @@ use Rattle.jobs.specs.declared.count_job.CountJob.{CountJob}
 use Rattle.jobs.specs.declared.job.PickJob.{PickJob}
 use Rattle.jobs.specs.declared.job.ShowJob.{ShowJob}
 use Rattle.plans.specs.declared.report.Report.{Report}
-use Rattle.deals_cli.specs.declared.written.Written.{Written}
+use Rattle.deals_cli.specs.declared.written.BoardsWritten.{BoardsWritten}
 use Rattle.sinks.specs.Appended.{AppendsAll, AppendsPart}
 use Rattle.input.specs.Told.{FaultsIn, InputFaultsIn}
 use Rattle.statistics.specs.Counting.{counting}
@@ -60,13 +60,13 @@ InterruptsWorked layout plan asked form cause old new =
     × InterruptsRun layout (record plan { workers = workers }) form cause old new
 
 -- a run wrote the plan's text, and was counted
-pub record Wrote (layout : Layout) (plan : Planned) (form : Form) (written : Written)
+pub record Wrote (layout : Layout) (plan : Planned) (form : Form) (written : BoardsWritten)
     (old new : Option (List ℕ)) : Type 0 where
   pub text : WritesTextIn layout plan form written.boards old new
   pub candidates_are : written.candidates ≡ end_of plan form
   pub few : (written.boards ≤ written.candidates) × (written.candidates ≤ plan.count)
 
-abbrev pub EndsWritten : Layout → Planned → Form → Result Written Cause
+abbrev pub EndsWritten : Layout → Planned → Form → Result BoardsWritten Cause
     → (old new : Option (List ℕ)) → Type 0
 EndsWritten layout plan form (Ok written) old new = Wrote layout plan form written old new
 EndsWritten layout plan form (Err cause) old new = InterruptsRun layout plan form cause old new

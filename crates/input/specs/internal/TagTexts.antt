@@ -9,9 +9,9 @@ use Rattle.input.specs.RecordScans.{IsWithin, spells_from}
 use Rattle.input.specs.Texts.{after, list_of, refused_with}
 use Rattle.input.specs.declared.records.fault.RefusedRecord.{RefusedRecord}
 use Rattle.input.specs.internal.Endings.{told_if}
-use Rattle.input.specs.declared.records.line.Part.TheVariants.{Open}
+use Rattle.input.specs.declared.records.line.LinePart.TheVariants.{Open}
 use Rattle.input.specs.declared.records.reading.Reading.{Reading}
-use Rattle.input.specs.declared.records.scanner.Scanner.{Scanner}
+use Rattle.input.specs.declared.records.scanner.RecordScanner.{RecordScanner}
 use Rattle.input.specs.declared.records.tag.Opening.{Opening}
 
 -- a byte that stands for itself in a value
@@ -56,17 +56,17 @@ abbrev pub with_place : Place → Reading → Reading
 with_place p s = record s { line = p }
 
 -- the byte was read, and the board came of it if a game ends with it
-abbrev pub ReadsByte : Scanner → Scanner → ℕ → Told → Result Bool RefusedRecord → Type 0
+abbrev pub ReadsByte : RecordScanner → RecordScanner → ℕ → Told → Result Bool RefusedRecord → Type 0
 ReadsByte s t byte told r = IfOk r (λ ended. (rest : List ℕ) → spells_from s (byte ∷ rest)
     ≡ after (list_of (told_if ended told)) (spells_from t rest))
 
 -- with this byte the text is refused, whatever comes after
-abbrev pub RefusesByte : Scanner → ℕ → Result Bool RefusedRecord → Type 0
+abbrev pub RefusesByte : RecordScanner → ℕ → Result Bool RefusedRecord → Type 0
 RefusesByte s byte r =
     IfErr r (λ e. (rest : List ℕ) → spells_from s (byte ∷ rest) ≡ refused_with e)
 
 -- these many bytes were read, and the board came of them
-pub record Reads (s t : Scanner) (bytes : List ℕ) (count : ℕ) (board : Option Told) : Type 0 where
+pub record Reads (s t : RecordScanner) (bytes : List ℕ) (count : ℕ) (board : Option Told) : Type 0 where
   pub within : count ≤ length bytes
   pub spells : (rest : List ℕ) → spells_from s (bytes ++ rest)
       ≡ after (list_of board) (spells_from t (drop count bytes ++ rest))

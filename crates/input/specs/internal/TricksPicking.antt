@@ -15,7 +15,7 @@ use Rattle.input.specs.Told.{Solved, TellsBy, Told, Written, after, boards_text}
 use Rattle.input.specs.declared.tricks.line.LineEnd.{LineEnd}
 use Rattle.input.specs.declared.tricks.line.LineEnd.TheVariants.{Feed, Last, TooLong, Nothing}
 use Rattle.input.specs.declared.tricks.picker.Picked.{Picked}
-use Rattle.input.specs.declared.tricks.picker.Step.{Step}
+use Rattle.input.specs.declared.tricks.picker.PickStep.{PickStep}
 
 -- ---- a line
 
@@ -114,7 +114,7 @@ Stepped w plan lines _ count before after_it base new =
     PickedLast w plan before after_it base new
 
 -- a line was picked
-abbrev pub PicksLine : Written → Planned → ℕ → Result Step PickFault
+abbrev pub PicksLine : Written → Planned → ℕ → Result PickStep PickFault
     → (before after_it base new : Option (List ℕ)) → Type 0
 PicksLine w plan lines (Ok step) before after_it base new =
     Stepped w plan lines step.end step.boards before after_it base new

@@ -1,7 +1,7 @@
 //! A line that is read byte by byte.
 
 ghost use Rattle.std.specs.Prelude.{◌≡◌, ◌+◌, ◌*◌, ◌<◌, ℕ, List, [], ◌∷◌, Err, false, true, nat_lt};
-ghost use Rattle.input.specs.declared.numbers.line.Part.TheVariants.{Digits};
+ghost use Rattle.input.specs.declared.numbers.line.NumberPart.TheVariants.{Digits};
 ghost use Rattle.input.specs.Scans.{line_from};
 ghost use Rattle.input.specs.internal.Lines.{start_of_line};
 ghost use Rattle.plans.specs.declared.refusal.LineFault.TheVariants.{NotANumber};
@@ -15,7 +15,7 @@ const MOST_DIGITS: u8 = 13;
 
 /// What a line has had so far.
 #[derive(Clone, Copy)]
-pub enum Part {
+pub enum NumberPart {
     /// Nothing but spaces and tabs.
     Blank,
     /// Digits after them.
@@ -26,13 +26,13 @@ pub enum Part {
 
 /// A line that is read byte by byte: the number that its digits write, and how many those are.
 #[derive(Drop)]
-pub struct Line {
-    part: Part,
+pub struct NumberLine {
+    part: NumberPart,
     value: u64,
     digits: u8,
 }
 
-impl Model for Line {
+impl Model for NumberLine {
     ghost use Rattle.std.specs.Prelude.{◌<◌, ◌≤◌, ◌^◌};
     ghost use Rattle.input.specs.Scans.{LineView};
 
@@ -46,13 +46,13 @@ impl Model for Line {
     } };
 }
 
-impl Line {
+impl NumberLine {
     /// Nothing was read.
-    pub fn new() -> Line
+    pub fn new() -> NumberLine
         ensures { result ≡ start_of_line }
     {
-        Line {
-            part: Part::Blank,
+        NumberLine {
+            part: NumberPart::Blank,
             value: 0,
             digits: 0,
         }
@@ -71,7 +71,7 @@ impl Line {
         if self.digits == MOST_DIGITS {
             return false;
         }
-        self.part = Part::Digits;
+        self.part = NumberPart::Digits;
         self.value = self.value * 10 + u64::from(digit);
         self.digits += 1;
         true
@@ -85,16 +85,16 @@ impl Line {
             → line_from self.old (byte ∷ rest) ≡ Err NotANumber }
     {
         match (self.part, byte) {
-            (Part::Blank, b' ' | b'\t') => true,
-            (Part::Blank, b'0'..=b'9') => {
-                self.part = Part::Digits;
+            (NumberPart::Blank, b' ' | b'\t') => true,
+            (NumberPart::Blank, b'0'..=b'9') => {
+                self.part = NumberPart::Digits;
                 self.value = u64::from(byte - b'0');
                 self.digits = 1;
                 true
             }
-            (Part::Digits, b'0'..=b'9') => self.take_digit(byte - b'0'),
-            (Part::Digits | Part::Over, b' ' | b'\t') => {
-                self.part = Part::Over;
+            (NumberPart::Digits, b'0'..=b'9') => self.take_digit(byte - b'0'),
+            (NumberPart::Digits | NumberPart::Over, b' ' | b'\t') => {
+                self.part = NumberPart::Over;
                 true
             }
             _ => false,
@@ -105,7 +105,7 @@ impl Line {
     pub fn says(&self) -> Result<Option<u64>, LineFault>
         ensures { result ≡ line_from self.now [] }
     {
-        if self.part == Part::Blank {
+        if self.part == NumberPart::Blank {
             return Ok(None);
         }
         if self.value < MAX_CANDIDATES {

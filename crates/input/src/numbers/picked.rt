@@ -4,7 +4,7 @@ ghost use Rattle.std.specs.Prelude.{◌≡◌, ◌-◌, ◌^◌, ◌<◌, [], Ma
 ghost use Rattle.input.specs.Outcomes.{FaultsOf, InputFaultsOf, Picks};
 
 use crate::numbers::fault::PickFault;
-use crate::numbers::scanner::Scanner;
+use crate::numbers::scanner::NumberScanner;
 use crate::source::{MOST_BYTES, Source};
 use boards::Notation;
 use cards::DealsByNumber;
@@ -19,15 +19,15 @@ const MOST_READS: u64 = MOST_BYTES + 1;
 
 /// What picks: the plan, the deals of its candidates, and what was read.
 #[derive(Drop)]
-struct Picker {
+struct NumberPicker {
     plan: Plan,
     deals: DealsByNumber,
-    scanner: Scanner,
+    scanner: NumberScanner,
     ghost seed: { deals.seed ≡ plan.seed },
     ghost fixed: { deals.fixed ≡ plan.fixed },
 }
 
-impl Picker {
+impl NumberPicker {
     ghost use Rattle.std.specs.Prelude.{◌≡◌, ◌+◌, ◌-◌, ◌<◌, ◌≤◌, ◌^◌, ◌++◌, ◌∷◌, [], List, OnOk};
     ghost use Rattle.std.specs.Prelude.{length};
     ghost use Rattle.boards.specs.declared.board.Board.{Board};
@@ -38,15 +38,15 @@ impl Picker {
     ghost use Rattle.sinks.specs.Sinks.{AppendsOrBreaksOff, CountsFault};
 
     /// Returns a picker that has read nothing.
-    fn new(plan: &Plan) -> Picker
+    fn new(plan: &Plan) -> NumberPicker
         ensures plan { result.plan ≡ plan.now }
         ensures scanned { HasScanned result.scanner [] [] }
         ensures lines { result.scanner.lines ≡ 0 }
     {
-        Picker {
+        NumberPicker {
             plan: *plan,
             deals: DealsByNumber::new(plan.seed(), plan.fixed()),
-            scanner: Scanner::new(),
+            scanner: NumberScanner::new(),
         }
     }
 
@@ -212,7 +212,7 @@ pub fn pick<N: Notation, I: Source, S: Sink>(
         Ok(()) => {}
         Err(_) => return Err(PickFault::Output),
     }
-    let mut picker = Picker::new(plan);
+    let mut picker = NumberPicker::new(plan);
     let mut piece = [0u8; PIECE];
     for turn in 0..MOST_READS {
         let boards = picker.scanner.numbers();

@@ -6,7 +6,7 @@ ghost use Rattle.input.specs.NumberTexts.{Said, said, with_line};
 ghost use Rattle.input.specs.Scans.{HasScanned, after, line_from, list_of, said_from};
 ghost use Rattle.input.specs.internal.Lines.{start_of_line};
 
-use crate::numbers::line::Line;
+use crate::numbers::line::NumberLine;
 use cards::MAX_CANDIDATES;
 use plans::{LineFault, RefusedLine};
 use std::marker::Model;
@@ -17,14 +17,14 @@ const MOST_NUMBERS: u64 = MAX_CANDIDATES;
 /// Reads a text of numbers byte by byte: it keeps what the line has had so far, and how many lines
 /// and numbers there were.
 #[derive(Drop)]
-pub struct Scanner {
-    line: Line,
+pub struct NumberScanner {
+    line: NumberLine,
     after_cr: bool,
     lines: u64,
     numbers: u64,
 }
 
-impl Model for Scanner {
+impl Model for NumberScanner {
     ghost use Rattle.std.specs.Prelude.{◌≤◌, ◌^◌};
     ghost use Rattle.input.specs.Scans.{ScannerView};
 
@@ -40,14 +40,14 @@ impl Model for Scanner {
     ghost invariant = { λ s. s.numbers ≤ 2 ^ 40 };
 }
 
-impl Scanner {
+impl NumberScanner {
     /// Nothing was read.
-    pub fn new() -> Scanner
+    pub fn new() -> NumberScanner
         ensures scanned { HasScanned result [] [] }
         ensures lines { result.lines ≡ 0 }
     {
-        Scanner {
-            line: Line::new(),
+        NumberScanner {
+            line: NumberLine::new(),
             after_cr: false,
             lines: 0,
             numbers: 0,
@@ -109,7 +109,7 @@ impl Scanner {
             → said_from self.old (10 ∷ rest) ≡ record { numbers = []; refused = Some e }) }
     {
         let number = self.line_says()?;
-        self.line = Line::new();
+        self.line = NumberLine::new();
         self.after_cr = false;
         self.lines += 1;
         if number.is_some() {

@@ -12,7 +12,7 @@ ghost use Rattle.input.specs.internal.Endings.{told_if};
 
 use crate::records::deal_value::deal_in;
 use crate::records::fault::{RecordFault, RefusedRecord};
-use crate::records::kind::Kind;
+use crate::records::kind::TagKind;
 use crate::records::values::{
     Short, date_in, dealer_in, is_unknown, label_in, number_in, short_in, vulnerable_in,
 };
@@ -144,20 +144,20 @@ impl Game {
     }
 
     /// Whether the game has a tag of this kind.
-    pub(crate) fn has(&self, kind: Kind) -> bool
+    pub(crate) fn has(&self, kind: TagKind) -> bool
         ensures { result ≡ has kind self.now }
     {
         match kind {
-            Kind::Event => self.event.is_some(),
-            Kind::Site => self.site.is_some(),
-            Kind::Date => self.date.is_some(),
-            Kind::Board => self.number.is_some(),
-            Kind::Dealer => self.dealer.is_some(),
-            Kind::Vulnerable => self.vulnerable.is_some(),
-            Kind::Deal => self.deal.is_some(),
-            Kind::Tricks => self.tricks.is_some(),
-            Kind::Score => self.score.is_some(),
-            Kind::Contract => self.contract.is_some(),
+            TagKind::Event => self.event.is_some(),
+            TagKind::Site => self.site.is_some(),
+            TagKind::Date => self.date.is_some(),
+            TagKind::Board => self.number.is_some(),
+            TagKind::Dealer => self.dealer.is_some(),
+            TagKind::Vulnerable => self.vulnerable.is_some(),
+            TagKind::Deal => self.deal.is_some(),
+            TagKind::Tricks => self.tricks.is_some(),
+            TagKind::Score => self.score.is_some(),
+            TagKind::Contract => self.contract.is_some(),
         }
     }
 
@@ -211,21 +211,21 @@ impl Game {
 
     /// Adds a tag, on this line.
     #[tactic(auto, unfolding(crate::specs::Games::with_tag))]
-    pub(crate) fn add_tag(&mut self, kind: Kind, value: &[u8], line: u64)
+    pub(crate) fn add_tag(&mut self, kind: TagKind, value: &[u8], line: u64)
         ensures value { self.new ≡ with_tag kind value.now line self.old }
         ensures most { unwrap_or self.old.number 0 ≤ 2 ^ 40 → unwrap_or self.new.number 0 ≤ 2 ^ 40 }
     {
         match kind {
-            Kind::Event => read_label(&mut self.event, value),
-            Kind::Site => read_label(&mut self.site, value),
-            Kind::Date => self.date = Some(date_in(value)),
-            Kind::Board => self.add_number(value, line),
-            Kind::Dealer => self.add_dealer(value, line),
-            Kind::Vulnerable => self.add_vulnerable(value, line),
-            Kind::Deal => self.add_deal(value, line),
-            Kind::Tricks => read_short(&mut self.tricks, value),
-            Kind::Score => read_short(&mut self.score, value),
-            Kind::Contract => read_short(&mut self.contract, value),
+            TagKind::Event => read_label(&mut self.event, value),
+            TagKind::Site => read_label(&mut self.site, value),
+            TagKind::Date => self.date = Some(date_in(value)),
+            TagKind::Board => self.add_number(value, line),
+            TagKind::Dealer => self.add_dealer(value, line),
+            TagKind::Vulnerable => self.add_vulnerable(value, line),
+            TagKind::Deal => self.add_deal(value, line),
+            TagKind::Tricks => read_short(&mut self.tricks, value),
+            TagKind::Score => read_short(&mut self.score, value),
+            TagKind::Contract => read_short(&mut self.contract, value),
         }
     }
 

@@ -5,7 +5,7 @@ ghost use Rattle.input.specs.Kinds.{kind_of};
 
 /// A tag that says something of a board, or of all of them.
 #[derive(Clone, Copy)]
-pub enum Kind {
+pub enum TagKind {
     Event,
     Site,
     Date,
@@ -38,29 +38,29 @@ fn is_name(name: &[u8], word: &[u8]) -> bool
 
 /// The kind of a tag of this name, if it says something of a board.
 #[tactic(auto, unfolding(crate::specs::Kinds::kind_of))]
-pub(crate) fn kind_of(name: &[u8]) -> Option<Kind>
+pub(crate) fn kind_of(name: &[u8]) -> Option<TagKind>
     ensures { result ≡ kind_of name.now }
 {
     if is_name(name, b"Event") {
-        Some(Kind::Event)
+        Some(TagKind::Event)
     } else if is_name(name, b"Site") {
-        Some(Kind::Site)
+        Some(TagKind::Site)
     } else if is_name(name, b"Date") {
-        Some(Kind::Date)
+        Some(TagKind::Date)
     } else if is_name(name, b"Board") {
-        Some(Kind::Board)
+        Some(TagKind::Board)
     } else if is_name(name, b"Dealer") {
-        Some(Kind::Dealer)
+        Some(TagKind::Dealer)
     } else if is_name(name, b"Vulnerable") {
-        Some(Kind::Vulnerable)
+        Some(TagKind::Vulnerable)
     } else if is_name(name, b"Deal") {
-        Some(Kind::Deal)
+        Some(TagKind::Deal)
     } else if is_name(name, b"DoubleDummyTricks") {
-        Some(Kind::Tricks)
+        Some(TagKind::Tricks)
     } else if is_name(name, b"OptimumScore") {
-        Some(Kind::Score)
+        Some(TagKind::Score)
     } else if is_name(name, b"ParContract") {
-        Some(Kind::Contract)
+        Some(TagKind::Contract)
     } else {
         None
     }

@@ -4,9 +4,9 @@ ghost use Rattle.std.specs.Prelude.{◌≡◌, ◌≢◌, ◌+◌, ◌<◌, ◌�
 ghost use Rattle.input.specs.Places.{begin, is_blank, is_empty, is_in_tag, is_name_byte};
 ghost use Rattle.input.specs.Places.{moved, new_line, opened, place_after, step_at};
 ghost use Rattle.input.specs.internal.TagTexts.{IsStart, after_tag};
-ghost use Rattle.input.specs.declared.records.line.Step.TheVariants.{On, Wrong};
-ghost use Rattle.input.specs.declared.records.line.Part.TheVariants.{Bracket, Name, Gap, Value};
-ghost use Rattle.input.specs.declared.records.line.Part.TheVariants.{Escape, Close};
+ghost use Rattle.input.specs.declared.records.line.LineStep.TheVariants.{On, Wrong};
+ghost use Rattle.input.specs.declared.records.line.LinePart.TheVariants.{Bracket, Name, Gap, Value};
+ghost use Rattle.input.specs.declared.records.line.LinePart.TheVariants.{Escape, Close};
 
 use arrayvec::ArrayVec;
 use std::marker::Model;
@@ -16,7 +16,7 @@ pub(crate) const MOST_BYTES: usize = 4096;
 
 /// Where in a line a reader is.
 #[derive(Clone, Copy, PartialEq, Eq)]
-pub enum Part {
+pub enum LinePart {
     /// Where a tag may begin, or a comment; or where all is skipped.
     Open,
     /// In what is left of a line that counts for nothing.
@@ -37,7 +37,7 @@ pub enum Part {
 
 /// What a byte does.
 #[derive(Clone, Copy)]
-pub enum Step {
+pub enum LineStep {
     /// Nothing but that the line goes on.
     On,
     /// It ends a tag.
@@ -48,8 +48,8 @@ pub enum Step {
 
 /// A line that is read byte by byte, and the tag in it that was read last.
 #[derive(Drop)]
-pub(crate) struct Line {
-    part: Part,
+pub(crate) struct RecordLine {
+    part: LinePart,
     skips: bool,
     comment: bool,
     column: usize,
@@ -57,7 +57,7 @@ pub(crate) struct Line {
     value: ArrayVec<u8, 4096>,
 }
 
-impl Model for Line {
+impl Model for RecordLine {
     ghost use Rattle.std.specs.Prelude.{◌≤◌, length};
     ghost use Rattle.input.specs.Places.{Place};
 
@@ -114,13 +114,13 @@ pub(crate) fn is_name_byte(byte: u8) -> bool
     IN_NAMES[usize::from(byte)]
 }
 
-impl Line {
+impl RecordLine {
     /// Nothing was read.
-    pub(crate) fn new() -> Line
+    pub(crate) fn new() -> RecordLine
         ensures { result ≡ begin }
     {
-        Line {
-            part: Part::Open,
+        RecordLine {
+            part: LinePart::Open,
             skips: false,
             comment: false,
             column: 0,
@@ -155,7 +155,7 @@ impl Line {
     pub(crate) fn is_in_tag(&self) -> bool
         ensures { result ≡ is_in_tag self.now.part }
     {
-        !matches!(self.part, Part::Open | Part::Rest)
+        !matches!(self.part, LinePart::Open | LinePart::Rest)
     }
 
     /// Whether the line is empty.
@@ -169,7 +169,7 @@ impl Line {
     pub(crate) fn end(&mut self)
         ensures { self.new ≡ new_line self.old }
     {
-        self.part = Part::Open;
+        self.part = LinePart::Open;
         self.column = 0;
         self.name.clear();
         self.value.clear();
@@ -179,7 +179,7 @@ impl Line {
     pub(crate) fn is_at_start(&self) -> bool
         ensures { result ≡ true → IsStart self.now }
     {
-        self.column == 0 && self.part == Part::Open && !self.comment
+        self.column == 0 && self.part == LinePart::Open && !self.comment
     }
 
     /// Whether the line goes on after any byte.
@@ -188,7 +188,7 @@ impl Line {
     {
         matches!(
             self.part,
-            Part::Open | Part::Rest | Part::Value | Part::Escape
+            LinePart::Open | LinePart::Rest | LinePart::Value | LinePart::Escape
         )
     }
 
@@ -218,15 +218,15 @@ impl Line {
         ensures { self.new ≡ opened self.old byte }
     {
         if self.column == 1 && byte == b'%' {
-            self.part = Part::Rest;
+            self.part = LinePart::Rest;
         } else if self.comment {
             self.comment = byte != b'}';
         } else if byte == b'{' {
             self.comment = true;
         } else if byte == b';' {
-            self.part = Part::Rest;
+            self.part = LinePart::Rest;
         } else if byte == b'[' && (self.column == 1 || !self.skips) {
-            self.part = Part::Bracket;
+            self.part = LinePart::Bracket;
             self.skips = false;
         } else if !is_blank(byte) {
             self.skips = true;
@@ -234,52 +234,52 @@ impl Line {
     }
 
     /// Takes the first byte of a name.
-    fn take_bracket(&mut self, byte: u8) -> Step
+    fn take_bracket(&mut self, byte: u8) -> LineStep
         requires { 0 < self.old.column }
         ensures step { result ≡ step_at Bracket byte }
         ensures moved { result ≢ Wrong → self.new ≡ moved Bracket self.old byte }
     {
         if !is_name_byte(byte) {
-            return Step::Wrong;
+            return LineStep::Wrong;
         }
         self.name.clear();
         self.name.push(byte);
-        self.part = Part::Name;
-        Step::On
+        self.part = LinePart::Name;
+        LineStep::On
     }
 
     /// Takes a byte of a name or after it.
-    fn take_name(&mut self, byte: u8) -> Step
+    fn take_name(&mut self, byte: u8) -> LineStep
         requires { length self.old.name < self.old.column }
         ensures step { result ≡ step_at Name byte }
         ensures moved { result ≢ Wrong → self.new ≡ moved Name self.old byte }
     {
         if byte == b'"' {
             self.value.clear();
-            self.part = Part::Value;
+            self.part = LinePart::Value;
         } else if is_blank(byte) {
-            self.part = Part::Gap;
+            self.part = LinePart::Gap;
         } else if is_name_byte(byte) {
             self.name.push(byte);
         } else {
-            return Step::Wrong;
+            return LineStep::Wrong;
         }
-        Step::On
+        LineStep::On
     }
 
     /// Takes a byte between a name and a value.
-    fn take_gap(&mut self, byte: u8) -> Step
+    fn take_gap(&mut self, byte: u8) -> LineStep
         ensures step { result ≡ step_at Gap byte }
         ensures moved { result ≢ Wrong → self.new ≡ moved Gap self.old byte }
     {
         if byte == b'"' {
             self.value.clear();
-            self.part = Part::Value;
-            Step::On
+            self.part = LinePart::Value;
+            LineStep::On
         } else if is_blank(byte) {
-            Step::On
+            LineStep::On
         } else {
-            Step::Wrong
+            LineStep::Wrong
         }
     }
 
@@ -289,12 +289,12 @@ impl Line {
         ensures { self.new ≡ moved Value self.old byte }
     {
         if byte == b'"' {
-            self.part = Part::Close;
+            self.part = LinePart::Close;
             return;
         }
         self.value.push(byte);
         if byte == b'\\' {
-            self.part = Part::Escape;
+            self.part = LinePart::Escape;
         }
     }
 
@@ -304,49 +304,49 @@ impl Line {
         ensures { self.new ≡ moved Escape self.old byte }
     {
         self.value.push(byte);
-        self.part = Part::Value;
+        self.part = LinePart::Value;
     }
 
     /// Takes a byte after a value.
-    fn take_close(&mut self, byte: u8) -> Step
+    fn take_close(&mut self, byte: u8) -> LineStep
         ensures step { result ≡ step_at Close byte }
         ensures moved { result ≢ Wrong → self.new ≡ moved Close self.old byte }
     {
         if byte == b']' {
-            self.part = Part::Open;
-            Step::Whole
+            self.part = LinePart::Open;
+            LineStep::Whole
         } else if is_blank(byte) {
-            Step::On
+            LineStep::On
         } else {
-            Step::Wrong
+            LineStep::Wrong
         }
     }
 
     /// Takes the next byte of a line that isn't too long for it.
-    pub(crate) fn take(&mut self, byte: u8) -> Step
+    pub(crate) fn take(&mut self, byte: u8) -> LineStep
         requires { self.old.column < 4096 }
         ensures step { result ≡ step_at self.old.part byte }
         ensures moved { result ≢ Wrong → self.new ≡ place_after self.old byte }
     {
         self.column += 1;
         match self.part {
-            Part::Open => {
+            LinePart::Open => {
                 self.take_open(byte);
-                Step::On
+                LineStep::On
             }
-            Part::Rest => Step::On,
-            Part::Bracket => self.take_bracket(byte),
-            Part::Name => self.take_name(byte),
-            Part::Gap => self.take_gap(byte),
-            Part::Value => {
+            LinePart::Rest => LineStep::On,
+            LinePart::Bracket => self.take_bracket(byte),
+            LinePart::Name => self.take_name(byte),
+            LinePart::Gap => self.take_gap(byte),
+            LinePart::Value => {
                 self.take_value(byte);
-                Step::On
+                LineStep::On
             }
-            Part::Escape => {
+            LinePart::Escape => {
                 self.take_escaped(byte);
-                Step::On
+                LineStep::On
             }
-            Part::Close => self.take_close(byte),
+            LinePart::Close => self.take_close(byte),
         }
     }
 }

@@ -13,7 +13,7 @@ ghost use Rattle.input.specs.internal.TagTexts.{Reads};
 
 use crate::records::fault::RefusedRecord;
 use crate::records::game::Told;
-use crate::records::scanner::Scanner;
+use crate::records::scanner::RecordScanner;
 use crate::{MOST_BYTES, Source, SourceFault};
 
 /// How many bytes are read at once.
@@ -57,7 +57,7 @@ pub enum ReadFault {
 /// it takes is constant.
 #[derive(Drop)]
 pub struct BoardReader {
-    scanner: Scanner,
+    scanner: RecordScanner,
     piece: [u8; PIECE],
     from: usize,
     to: usize,
@@ -67,7 +67,7 @@ pub struct BoardReader {
 /// Reads on in this part of a piece, up to a board, which is then told, or its end. Returns how
 /// many bytes were read, and whether there is a board.
 fn read_part(
-    scanner: &mut Scanner,
+    scanner: &mut RecordScanner,
     piece: &[u8; PIECE],
     from: usize,
     to: usize,
@@ -94,7 +94,7 @@ impl BoardReader {
         ensures left { left result ≡ 0 }
     {
         BoardReader {
-            scanner: Scanner::new(),
+            scanner: RecordScanner::new(),
             piece: [0; PIECE],
             from: 0,
             to: 0,

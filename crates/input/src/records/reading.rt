@@ -11,14 +11,14 @@ ghost use Rattle.input.specs.internal.TagTexts.{IsStart, after_tag, with_place};
 
 use crate::records::fault::{RecordFault, RefusedRecord};
 use crate::records::game::{Game, Told};
-use crate::records::kind::{Kind, kind_of};
-use crate::records::line::{Line, MOST_BYTES, Step};
+use crate::records::kind::{TagKind, kind_of};
+use crate::records::line::{LineStep, MOST_BYTES, RecordLine};
 
 /// What was read of a text: where in a line it ends, how many lines there were before, what the
 /// game says so far, and the number of the last board, or 0.
 #[derive(Drop)]
 pub(crate) struct Reading {
-    pub(crate) line: Line,
+    pub(crate) line: RecordLine,
     pub(crate) lines: u64,
     pub(crate) game: Game,
     pub(crate) last: u64,
@@ -31,7 +31,7 @@ impl Reading {
         ensures room { InRoom result 0 }
     {
         Reading {
-            line: Line::new(),
+            line: RecordLine::new(),
             lines: 0,
             game: Game::none(),
             last: 0,
@@ -68,7 +68,7 @@ impl Reading {
     }
 
     /// Adds the last tag to the game.
-    fn add_tag(&mut self, kind: Kind)
+    fn add_tag(&mut self, kind: TagKind)
         requires { self.old.lines < 2 ^ 64 - 1 }
         ensures value { self.new ≡ with_last_tag kind self.old }
         ensures number { unwrap_or self.old.game.number 0 ≤ 2 ^ 40
@@ -126,7 +126,7 @@ impl Reading {
 
     /// Takes a tag at the beginning of a line, unless the game ends before it. Returns whether it
     /// did.
-    pub(crate) fn pass_tag(&mut self, kind: Option<Kind>, name: &[u8], value: &[u8]) -> bool
+    pub(crate) fn pass_tag(&mut self, kind: Option<TagKind>, name: &[u8], value: &[u8]) -> bool
         requires room { InRoom self.old (2 ^ 62) }
         requires start { IsStart self.old.line }
         requires fits { length name.now + length value.now + 5 ≤ 4096 }
@@ -151,7 +151,7 @@ impl Reading {
     /// Takes a whole line that is a tag, unless the game ends before it. Returns whether it did.
     ///
     /// Nothing is kept of the line, its name neither, since it ends.
-    pub(crate) fn pass_line(&mut self, kind: Option<Kind>, value: &[u8]) -> bool
+    pub(crate) fn pass_line(&mut self, kind: Option<TagKind>, value: &[u8]) -> bool
         requires room { InRoom self.old (2 ^ 62) }
         requires start { IsStart self.old.line }
         ensures passed { result ≡ true → (name : List ℕ) (next : Reading → Spelled)
@@ -220,9 +220,9 @@ impl Reading {
             return Err(self.refused(RecordFault::TooLong));
         }
         match self.line.take(byte) {
-            Step::On => Ok(false),
-            Step::Whole => self.take_tag(told),
-            Step::Wrong => Err(self.refused(RecordFault::NotATag)),
+            LineStep::On => Ok(false),
+            LineStep::Whole => self.take_tag(told),
+            LineStep::Wrong => Err(self.refused(RecordFault::NotATag)),
         }
     }
 

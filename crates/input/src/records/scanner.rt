@@ -18,18 +18,18 @@ use crate::records::tag::{SIGNS, Tag, tag_at};
 
 /// Reads a text byte by byte. It keeps what was read of the game, and whether a CR came last.
 #[derive(Drop)]
-pub struct Scanner {
+pub struct RecordScanner {
     reading: Reading,
     after_cr: bool,
 }
 
-impl Scanner {
+impl RecordScanner {
     /// Nothing was read.
-    pub fn new() -> Scanner
+    pub fn new() -> RecordScanner
         ensures begin { (text : List ℕ) → spells_from result text ≡ spelled text }
         ensures room { IsWithin result 0 }
     {
-        Scanner {
+        RecordScanner {
             reading: Reading::new(),
             after_cr: false,
         }

@@ -7,7 +7,7 @@ ghost use Rattle.input.specs.Kinds.{kind_of};
 ghost use Rattle.input.specs.Places.{is_name_byte};
 ghost use Rattle.input.specs.internal.TagTexts.{IsTag, Opens, is_plain, tag_text};
 
-use crate::records::kind::{Kind, kind_of};
+use crate::records::kind::{TagKind, kind_of};
 use crate::records::line::{MOST_BYTES, is_name_byte};
 
 /// How many bytes a tag has beside its name and its value.
@@ -24,7 +24,7 @@ const LAST_PLAIN: u8 = 60;
 #[derive(Clone, Copy)]
 pub(crate) struct Tag<'a> {
     pub(crate) name: &'a [u8],
-    pub(crate) kind: Option<Kind>,
+    pub(crate) kind: Option<TagKind>,
     pub(crate) value: &'a [u8],
     pub(crate) rest: &'a [u8],
 }
@@ -33,7 +33,7 @@ pub(crate) struct Tag<'a> {
 #[derive(Clone, Copy)]
 pub struct Opening<'a> {
     pub name: &'a [u8],
-    pub kind: Option<Kind>,
+    pub kind: Option<TagKind>,
     pub after: &'a [u8],
 }
 
@@ -79,7 +79,7 @@ fn name_length(text: &[u8]) -> usize
 }
 
 /// The opening that a text begins with, if it has this name, which is of this kind.
-fn opening_of<'a>(text: &'a [u8], name: &'a [u8], kind: Kind) -> Option<Opening<'a>>
+fn opening_of<'a>(text: &'a [u8], name: &'a [u8], kind: TagKind) -> Option<Opening<'a>>
     requires some { 0 < length name.now }
     requires named { list_all is_name_byte name.now ≡ true }
     requires kind { kind_of name.now ≡ Some kind }
@@ -100,16 +100,16 @@ fn opening_of<'a>(text: &'a [u8], name: &'a [u8], kind: Kind) -> Option<Opening<
 fn usual_opening(text: &[u8]) -> Option<Opening<'_>>
     ensures { IfSome result (λ o. Opens text.now o) }
 {
-    if let Some(board) = opening_of(text, b"Board", Kind::Board) {
+    if let Some(board) = opening_of(text, b"Board", TagKind::Board) {
         return Some(board);
     }
-    if let Some(deal) = opening_of(text, b"Deal", Kind::Deal) {
+    if let Some(deal) = opening_of(text, b"Deal", TagKind::Deal) {
         return Some(deal);
     }
-    if let Some(dealer) = opening_of(text, b"Dealer", Kind::Dealer) {
+    if let Some(dealer) = opening_of(text, b"Dealer", TagKind::Dealer) {
         return Some(dealer);
     }
-    opening_of(text, b"Vulnerable", Kind::Vulnerable)
+    opening_of(text, b"Vulnerable", TagKind::Vulnerable)
 }
 
 /// The opening that a text begins with, whatever its name.

@@ -15,7 +15,7 @@ use arrayvec::ArrayVec;
 pub(crate) const LONGEST: usize = 256;
 
 /// The bytes of a line.
-pub(crate) type Line = ArrayVec<u8, LONGEST>;
+pub(crate) type TricksLine = ArrayVec<u8, LONGEST>;
 
 /// What was read.
 #[derive(Clone, Copy)]
@@ -88,7 +88,10 @@ fn read_byte<I: Source>(input: &mut I) -> Result<Option<u8>, SourceFault>
 ///
 /// # Errors
 /// `SourceFault` if the input couldn't be read. What it gave of the line is kept.
-pub(crate) fn read_line<I: Source>(input: &mut I, line: &mut Line) -> Result<LineEnd, SourceFault>
+pub(crate) fn read_line<I: Source>(
+    input: &mut I,
+    line: &mut TricksLine,
+) -> Result<LineEnd, SourceFault>
     requires { I.faults input.old < 2 ^ 64 - 1 }
     ensures reads { IfOk result (λ end. ReadsLine end line.new.items
         (I.rest input.old) (I.rest input.new)) }
@@ -129,7 +132,10 @@ fn at_end(is_empty: bool) -> LineEnd
 ///
 /// # Errors
 /// `SourceFault` if the input couldn't be read.
-pub(crate) fn read_text<I: Source>(input: &mut I, line: &mut Line) -> Result<LineEnd, SourceFault>
+pub(crate) fn read_text<I: Source>(
+    input: &mut I,
+    line: &mut TricksLine,
+) -> Result<LineEnd, SourceFault>
     requires { I.faults input.old < 2 ^ 64 - 1 }
     ensures reads { IfOk result (λ end. ReadsText end line.new.items
         (I.rest input.old) (I.rest input.new)) }

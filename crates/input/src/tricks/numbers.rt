@@ -4,7 +4,7 @@ ghost use Rattle.std.specs.Prelude.{◌≡◌, ◌++◌, IfOk};
 ghost use Rattle.input.specs.NumberTexts.{said};
 ghost use Rattle.input.specs.Scans.{list_of};
 
-use crate::numbers::Scanner;
+use crate::numbers::NumberScanner;
 use std::alloc::{AllocError, Global};
 
 /// Appends the number, if there is one.
@@ -28,7 +28,7 @@ pub fn numbers_of(alloc: Global, text: &[u8]) -> Result<Vec<u64>, AllocError>
     ensures { IfOk result (λ v. v.items ≡ (said text.now).numbers) }
 {
     let mut numbers = Vec::new(alloc);
-    let mut scanner = Scanner::new();
+    let mut scanner = NumberScanner::new();
     for byte in text {
         match scanner.take(*byte) {
             Ok(number) => keep(&mut numbers, number)?,

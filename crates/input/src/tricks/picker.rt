@@ -8,7 +8,7 @@ ghost use Rattle.input.specs.internal.TricksPicking.{text_of};
 
 use crate::numbers::PickFault;
 use crate::tricks::judge::judge;
-use crate::tricks::line::{Line, LineEnd, read_text};
+use crate::tricks::line::{LineEnd, TricksLine, read_text};
 use crate::tricks::teller::{put_board, put_end, refused, without_cr};
 use crate::tricks::word::{number_in, split_word};
 use crate::{MOST_BYTES, Source};
@@ -33,7 +33,7 @@ pub(crate) struct Picked {
 
 /// How a line ended, and how many boards there are after it.
 #[derive(Clone, Copy)]
-pub(crate) struct Step {
+pub(crate) struct PickStep {
     end: LineEnd,
     boards: u64,
 }
@@ -50,14 +50,14 @@ fn text_of(end: LineEnd, line: &[u8]) -> &[u8]
 
 /// What picks: the plan, and the deals of its candidates.
 #[derive(Drop)]
-struct Picker {
+struct TricksPicker {
     plan: Plan,
     deals: DealsByNumber,
     ghost seed: { deals.seed ≡ plan.seed },
     ghost fixed: { deals.fixed ≡ plan.fixed },
 }
 
-impl Picker {
+impl TricksPicker {
     ghost use Rattle.std.specs.Prelude.{◌≡◌, ◌+◌, ◌-◌, ◌<◌, ◌≤◌, ◌^◌, ℕ, List, Option, IfOk};
     ghost use Rattle.std.specs.Prelude.{false};
     ghost use Rattle.input.specs.NumberTexts.{has_lf, line_says};
@@ -65,10 +65,10 @@ impl Picker {
     ghost use Rattle.input.specs.Told.{FaultsIn, InputFaultsIn, IsReady, written_by};
     ghost use Rattle.input.specs.internal.TricksPicking.{FeedsOn, HasRoom, PickedFrom, PicksLine, picked_in};
 
-    fn new(plan: &Plan) -> Picker
+    fn new(plan: &Plan) -> TricksPicker
         ensures { result.plan ≡ plan.now }
     {
-        Picker {
+        TricksPicker {
             plan: *plan,
             deals: DealsByNumber::new(plan.seed(), plan.fixed()),
         }
@@ -104,7 +104,7 @@ impl Picker {
         printer: &mut AnyPrinter,
         input: &mut I,
         sink: &mut S,
-    ) -> Result<Step, PickFault>
+    ) -> Result<PickStep, PickFault>
         requires output { S.faults sink.old < 2 ^ 64 - 1 }
         requires input { I.faults input.old < 2 ^ 64 - 1 }
         requires lines { lines < 2 ^ 64 - 1 }
@@ -123,14 +123,14 @@ impl Picker {
         ensures faults { FaultsIn result (S.faults sink.old) (S.faults sink.new) }
         ensures input { InputFaultsIn result (I.faults input.old) (I.faults input.new) }
     {
-        let mut line = Line::new();
+        let mut line = TricksLine::new();
         let Ok(end) = read_text(input, &mut line) else {
             return Err(PickFault::Input);
         };
         match self.board_of(boards, text_of(end, line.as_slice())) {
-            Ok(None) => Ok(Step { end, boards }),
+            Ok(None) => Ok(PickStep { end, boards }),
             Ok(Some(picked)) => match put_board(printer, &picked.tricks, &picked.board, sink) {
-                Ok(()) => Ok(Step {
+                Ok(()) => Ok(PickStep {
                     end,
                     boards: boards + 1,
                 }),
@@ -170,7 +170,7 @@ pub fn pick<I: Source, S: Sink>(
         Ok(()) => {}
         Err(_) => return Err(PickFault::Output),
     }
-    let picker = Picker::new(plan);
+    let picker = TricksPicker::new(plan);
     let mut boards = 0u64;
     for turn in 0..MOST_LINES {
         sink.watch(boards, boards);

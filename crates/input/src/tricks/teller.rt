@@ -15,7 +15,7 @@ ghost use Rattle.input.specs.internal.Telling.{judged};
 
 use crate::numbers::PickFault;
 use crate::tricks::judge::judge;
-use crate::tricks::line::{Line, LineEnd, read_line};
+use crate::tricks::line::{LineEnd, TricksLine, read_line};
 use crate::{MOST_BYTES, Source};
 use boards::{Board, Notation, Tricks};
 use cards::{Deal, DealsByNumber};
@@ -104,7 +104,7 @@ fn tell_board<I: Source, S: Sink>(
     ensures faults { FaultsIn result (S.faults sink.old) (S.faults sink.new) }
     ensures input { InputFaultsIn result (I.faults input.old) (I.faults input.new) }
 {
-    let mut line = Line::new();
+    let mut line = TricksLine::new();
     let Ok(end) = read_line(input, &mut line) else {
         return Err(PickFault::Input);
     };
@@ -156,7 +156,7 @@ fn pass_over<I: Source>(lines: u64, input: &mut I) -> Result<(), PickFault>
     ensures faults { (n : ℕ) → FaultsIn result n n }
     ensures input { InputFaultsIn result (I.faults input.old) (I.faults input.new) }
 {
-    let mut line = Line::new();
+    let mut line = TricksLine::new();
     let mut before = lines;
     for turn in 0..MOST_LINES {
         let Ok(end) = read_line(input, &mut line) else {

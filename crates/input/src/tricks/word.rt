@@ -1,10 +1,10 @@
-//! The number in front of a line, and what is behind it.
+//! The number before a line, and what comes after it.
 
 ghost use Rattle.std.specs.Prelude.{◌≡◌, ◌<◌, ◌^◌, IfOk, IfSome, false, position};
 ghost use Rattle.input.specs.NumberTexts.{has_lf, is_blank, line_says};
 ghost use Rattle.input.specs.TricksPicked.{behind_word, first_word};
 
-use crate::numbers::Scanner;
+use crate::numbers::NumberScanner;
 use plans::LineFault;
 
 /// Whether the byte is a space or a tab.
@@ -21,7 +21,7 @@ fn first_blank(line: &[u8]) -> Option<usize>
     line.iter().position(|byte| is_blank(*byte))
 }
 
-/// Returns what is before the first blank, and what is behind it.
+/// Returns what is before the first blank, and what comes after it.
 pub(crate) fn split_word(line: &[u8]) -> (&[u8], &[u8])
     ensures word { result.0.now ≡ first_word line.now }
     ensures behind { result.1.now ≡ behind_word line.now }
@@ -38,7 +38,7 @@ pub(crate) fn number_in(word: &[u8]) -> Result<Option<u64>, LineFault>
     ensures says { result ≡ line_says word.now }
     ensures below { IfOk result (λ n. IfSome n (λ k. k < 2 ^ 40)) }
 {
-    let mut scanner = Scanner::new();
+    let mut scanner = NumberScanner::new();
     for byte in word {
         match scanner.take(*byte) {
             Ok(_) => {}

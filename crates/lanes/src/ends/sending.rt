@@ -7,7 +7,7 @@ ghost use Rattle.lanes.specs.Slots.{verdict_in, verdicts_in};
 use crate::bell::left_by_worth_waking;
 use crate::ends::{Closed, LaneIn};
 use crate::pause::Pause;
-use crate::signals::{Side, Signals};
+use crate::signals::{LaneEnd, Signals};
 use crate::verdict::{Slot, Verdict};
 use crate::wait::Raised;
 
@@ -109,7 +109,7 @@ impl LaneIn {
         self.signals.writer.ring();
         let capacity = self.producer.capacity();
         Pause::new(
-            Side::Worker,
+            LaneEnd::Worker,
             capacity,
             self.pace,
             self.habit,

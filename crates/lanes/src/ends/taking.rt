@@ -7,7 +7,7 @@ ghost use Rattle.lanes.specs.Slots.{verdict_in};
 use crate::bell::left_by_worth_waking;
 use crate::ends::{Closed, LaneOut};
 use crate::pause::Pause;
-use crate::signals::{Side, Signals};
+use crate::signals::{LaneEnd, Signals};
 use crate::verdict::{Slot, Verdict};
 
 impl LaneOut {
@@ -157,7 +157,7 @@ impl LaneOut {
     pub(crate) fn begin_wait(&self) -> Pause {
         let capacity = self.consumer.capacity();
         Pause::new(
-            Side::Writer,
+            LaneEnd::Writer,
             capacity,
             self.pace,
             self.habit,

@@ -15,7 +15,7 @@ use boards::{Caption, Captions, Date, TextBuffer};
 
 /// How a page looks.
 #[derive(Clone, Copy)]
-pub(crate) enum Look {
+pub(crate) enum PageLook {
     /// A page without tricks.
     Plain,
     /// A page with tricks.
@@ -27,7 +27,7 @@ pub(crate) enum Look {
 }
 
 /// Writes the header into the empty buffer.
-pub(crate) fn put_header(text: &mut TextBuffer, look: Look, heading: &Captions)
+pub(crate) fn put_header(text: &mut TextBuffer, look: PageLook, heading: &Captions)
     requires { text.old ≡ [] }
     ensures { text.new ≡ header_text (style_of look) heading.now }
 {
@@ -44,16 +44,16 @@ pub(crate) fn put_header(text: &mut TextBuffer, look: Look, heading: &Captions)
 }
 
 /// Appends the style of a page that looks so and has this title.
-fn put_look(text: &mut TextBuffer, look: Look, title: &[u8])
+fn put_look(text: &mut TextBuffer, look: PageLook, title: &[u8])
     requires { length text.old + 1_820 + room 4 title.now ≤ CAPACITY }
     ensures text { text.new ≡ text.old ++ style_of look title.now }
     ensures most { length text.new ≤ length text.old + 1_820 + room 4 title.now }
 {
     match look {
-        Look::Plain => put_style(text, title),
-        Look::Tricks => put_style_with_tricks(text, title),
-        Look::Sheet => put_sheet_style(text, title),
-        Look::Slips => put_slip_style(text, title),
+        PageLook::Plain => put_style(text, title),
+        PageLook::Tricks => put_style_with_tricks(text, title),
+        PageLook::Sheet => put_sheet_style(text, title),
+        PageLook::Slips => put_slip_style(text, title),
     }
 }
 

@@ -27,10 +27,10 @@ use crate::lessons::groups::preempts::PREEMPTS;
 use crate::lessons::groups::raises::RAISES;
 use crate::lessons::groups::responses::RESPONSES;
 use crate::lessons::groups::slams::SLAMS;
-use crate::lessons::lesson::{Group, Row};
+use crate::lessons::lesson::{Group, LessonRow};
 
 /// The lessons under this title.
-fn group(title: &'static str, rows: &'static [Row]) -> Group
+fn group(title: &'static str, rows: &'static [LessonRow]) -> Group
     ensures title { result.title.now ≡ title.entry.now }
     ensures rows { result.rows.now ≡ rows.entry.now }
 {

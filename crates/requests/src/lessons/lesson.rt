@@ -18,18 +18,18 @@ pub struct Lesson {
 
 /// A lesson as the tables have it: what the fields of `Lesson` are, in their order. A proof can't
 /// name a table of structs.
-pub(crate) type Row = (&'static str, &'static str, &'static str, &'static str);
+pub(crate) type LessonRow = (&'static str, &'static str, &'static str, &'static str);
 
 /// Lessons under one title.
 #[derive(Clone, Copy)]
 pub(crate) struct Group {
     pub(crate) title: &'static str,
-    pub(crate) rows: &'static [Row],
+    pub(crate) rows: &'static [LessonRow],
 }
 
 impl Lesson {
     /// The lesson of a row.
-    pub(crate) fn of(row: &Row) -> Lesson
+    pub(crate) fn of(row: &LessonRow) -> Lesson
         ensures { lesson_of result ≡ lesson_at row.now }
     {
         let (name, title, shows, condition) = *row;
@@ -43,7 +43,7 @@ impl Lesson {
 }
 
 /// The first lesson of these rows that has this name.
-pub(crate) fn lesson_in(mut rows: &[Row], name: &str) -> Option<Lesson>
+pub(crate) fn lesson_in(mut rows: &[LessonRow], name: &str) -> Option<Lesson>
     ensures { option_map lesson_of result
         ≡ lesson_in (map lesson_at rows.entry.now) name.now }
 {

@@ -7,7 +7,7 @@ ghost use Rattle.requests.specs.Lessons.{lesson_text, lessons_text, line_of};
 ghost use Rattle.requests.specs.internal.Groups.{lesson_at, title_and_lessons};
 
 use crate::lessons::groups::groups;
-use crate::lessons::lesson::{Group, Lesson, Row, lesson_in};
+use crate::lessons::lesson::{Group, Lesson, LessonRow, lesson_in};
 use std::alloc::{AllocError, Global};
 
 /// Returns the first lesson of this name, if there is one.
@@ -38,7 +38,7 @@ pub fn name_at(index: usize) -> Option<&'static str> {
 }
 
 /// Appends the line of a lesson in the list.
-fn put_line(out: &mut String, row: &Row) -> Result<(), AllocError>
+fn put_line(out: &mut String, row: &LessonRow) -> Result<(), AllocError>
     ensures { OnOk result
         (string_bytes out.new ≡ string_bytes out.old ++ line_of (lesson_at row.now)) }
 {
@@ -51,7 +51,7 @@ fn put_line(out: &mut String, row: &Row) -> Result<(), AllocError>
 }
 
 /// Appends the lines of these lessons.
-fn put_lines(out: &mut String, rows: &[Row]) -> Result<(), AllocError>
+fn put_lines(out: &mut String, rows: &[LessonRow]) -> Result<(), AllocError>
     ensures { OnOk result (string_bytes out.new
         ≡ string_bytes out.old ++ flat_map line_of (map lesson_at rows.now)) }
 {

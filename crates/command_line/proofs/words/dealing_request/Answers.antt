@@ -16,8 +16,8 @@ pub returns-in-Some : goal.returns-in-Some
 returns-in-Some c words at =
     let unknown = sym c.unknown_in.ensures ∙ ap is_some c.in-Some.is in (
       λ some. refused_asked words InvalidValue (at.unknown unknown) some,
-      refused_kind words InvalidValue c.written.result (at.unknown unknown)
-          (c.written.ensures InvalidValue c.invalid_value.ensures),
+      refused_kind words InvalidValue c.or_out_of_memory.result (at.unknown unknown)
+          (c.or_out_of_memory.ensures InvalidValue c.invalid_value.ensures),
     )
 
 pub returns-in-Some-no_lesson_in : goal.returns-in-Some-no_lesson_in
@@ -25,8 +25,8 @@ returns-in-Some-no_lesson_in c words at =
     let known = sym c.unknown_in.ensures ∙ ap is_some c.in_default.is in
     let none = sym c.no_lesson_in.ensures ∙ ap is_some c.in-Some-no_lesson_in.is in (
       λ some. refused_asked words InvalidValue (at.no_lesson known none) some,
-      refused_kind words InvalidValue c.written-in-Some-no_lesson_in.result (at.no_lesson known none)
-          (c.written-in-Some-no_lesson_in.ensures InvalidValue c.invalid_name.ensures),
+      refused_kind words InvalidValue c.or_out_of_memory-in-Some-no_lesson_in.result (at.no_lesson known none)
+          (c.or_out_of_memory-in-Some-no_lesson_in.ensures InvalidValue c.invalid_name.ensures),
     )
 
 pub returns-in-Some-bad_workers_in : goal.returns-in-Some-bad_workers_in
@@ -35,8 +35,8 @@ returns-in-Some-bad_workers_in c words at =
     let taught = sym c.no_lesson_in.ensures ∙ ap is_some c.in_default-no_lesson_in.is in
     let bad = sym c.bad_workers_in.ensures ∙ ap is_some c.in-Some-bad_workers_in.is in (
       λ some. refused_asked words ValueValidation (at.bad_workers known taught bad) some,
-      refused_kind words ValueValidation c.written-in-Some-bad_workers_in.result (at.bad_workers known taught bad)
-          (c.written-in-Some-bad_workers_in.ensures ValueValidation c.invalid_number.ensures),
+      refused_kind words ValueValidation c.or_out_of_memory-in-Some-bad_workers_in.result (at.bad_workers known taught bad)
+          (c.or_out_of_memory-in-Some-bad_workers_in.ensures ValueValidation c.invalid_number.ensures),
     )
 
 pub returns-in-Some-missing_of : goal.returns-in-Some-missing_of
@@ -48,8 +48,8 @@ returns-in-Some-missing_of c words at =
     let lacks = ap (λ s. lacks_option c.args.dealing s rows) (sym c.search_in-search.ensures)
     ∙ sym c.missing_of.ensures ∙ ap is_some c.in-Some-missing_of.is in (
       λ some. refused_asked words MissingRequiredArgument (at.missing known taught counted lacks) some,
-      refused_kind words MissingRequiredArgument c.written-in-Some-missing_of.result
-          (at.missing known taught counted lacks) (c.written-in-Some-missing_of.ensures MissingRequiredArgument
+      refused_kind words MissingRequiredArgument c.or_out_of_memory-in-Some-missing_of.result
+          (at.missing known taught counted lacks) (c.or_out_of_memory-in-Some-missing_of.ensures MissingRequiredArgument
           c.missing_option.ensures),
     )
 
@@ -63,8 +63,8 @@ returns-in-Some-extra_of c words at =
     ∙ sym c.missing_of.ensures ∙ ap is_some c.in_default-missing_of.is in
     let extra = sym c.extra_of.ensures ∙ ap is_some c.in-Some-extra_of.is in (
       λ some. refused_asked words ArgumentConflict (at.extra known taught counted lacks extra) some,
-      refused_kind words ArgumentConflict c.written-in-Some-extra_of.result
-          (at.extra known taught counted lacks extra) (c.written-in-Some-extra_of.ensures ArgumentConflict
+      refused_kind words ArgumentConflict c.or_out_of_memory-in-Some-extra_of.result
+          (at.extra known taught counted lacks extra) (c.or_out_of_memory-in-Some-extra_of.ensures ArgumentConflict
           c.conflicting_option.ensures),
     )
 

@@ -1,8 +1,8 @@
 //! Overcalls and doubles of an opening.
 
-use crate::lessons::lesson::Row;
+use crate::lessons::lesson::LessonRow;
 
-pub(crate) const COMPETING: &[Row] = &[
+pub(crate) const COMPETING: &[LessonRow] = &[
     (
         "takeout-double",
         "A take-out double",

@@ -1,8 +1,8 @@
 //! What follows an overcall or a double.
 
-use crate::lessons::lesson::Row;
+use crate::lessons::lesson::LessonRow;
 
-pub(crate) const DOUBLES: &[Row] = &[
+pub(crate) const DOUBLES: &[LessonRow] = &[
     (
         "negative-double",
         "A negative double",

@@ -1,8 +1,8 @@
 //! Leads.
 
-use crate::lessons::lesson::Row;
+use crate::lessons::lesson::LessonRow;
 
-pub(crate) const LEADS: &[Row] = &[
+pub(crate) const LEADS: &[LessonRow] = &[
     (
         "lead-from-honours",
         "A lead from a row of honours",

@@ -1,8 +1,8 @@
 //! Answers to openings in notrump.
 
-use crate::lessons::lesson::Row;
+use crate::lessons::lesson::LessonRow;
 
-pub(crate) const NOTRUMP: &[Row] = &[
+pub(crate) const NOTRUMP: &[LessonRow] = &[
     (
         "stayman",
         "Stayman",

@@ -1,8 +1,8 @@
 //! Openings.
 
-use crate::lessons::lesson::Row;
+use crate::lessons::lesson::LessonRow;
 
-pub(crate) const OPENINGS: &[Row] = &[
+pub(crate) const OPENINGS: &[LessonRow] = &[
     (
         "strong-notrump",
         "A strong notrump",

@@ -1,8 +1,8 @@
 //! Part scores.
 
-use crate::lessons::lesson::Row;
+use crate::lessons::lesson::LessonRow;
 
-pub(crate) const PART_SCORES: &[Row] = &[
+pub(crate) const PART_SCORES: &[LessonRow] = &[
     (
         "part-score",
         "A fight for the part score",

@@ -1,8 +1,8 @@
 //! Contracts to play, by the shape of the hands.
 
-use crate::lessons::lesson::Row;
+use crate::lessons::lesson::LessonRow;
 
-pub(crate) const PLAY: &[Row] = &[
+pub(crate) const PLAY: &[LessonRow] = &[
     (
         "three-notrump",
         "3NT with each suit stopped",

@@ -1,8 +1,8 @@
 //! Preempts and weak twos.
 
-use crate::lessons::lesson::Row;
+use crate::lessons::lesson::LessonRow;
 
-pub(crate) const PREEMPTS: &[Row] = &[
+pub(crate) const PREEMPTS: &[LessonRow] = &[
     (
         "weak-two",
         "A weak two in a major",

@@ -1,8 +1,8 @@
 //! Raises of an opening.
 
-use crate::lessons::lesson::Row;
+use crate::lessons::lesson::LessonRow;
 
-pub(crate) const RAISES: &[Row] = &[
+pub(crate) const RAISES: &[LessonRow] = &[
     (
         "single-raise",
         "A single raise of a major",

@@ -1,8 +1,8 @@
 //! Responses and rebids.
 
-use crate::lessons::lesson::Row;
+use crate::lessons::lesson::LessonRow;
 
-pub(crate) const RESPONSES: &[Row] = &[
+pub(crate) const RESPONSES: &[LessonRow] = &[
     (
         "one-over-one",
         "A new suit at the one level",

@@ -1,8 +1,8 @@
 //! Slams.
 
-use crate::lessons::lesson::Row;
+use crate::lessons::lesson::LessonRow;
 
-pub(crate) const SLAMS: &[Row] = &[
+pub(crate) const SLAMS: &[LessonRow] = &[
     (
         "notrump-slam",
         "A slam at notrump",

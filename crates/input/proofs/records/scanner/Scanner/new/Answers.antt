@@ -1,5 +1,0 @@
-use Rattle.input.proofs.Scanning.{at_begin}
-use Rattle.input.proofs.records.scanner.Scanner.new.Goals as goal
-
-pub returns-clause-begin : goal.returns-clause-begin
-returns-clause-begin c = at_begin c.new.result c.new.ensures.value
