@@ -56,7 +56,8 @@ abbrev pub with_place : Place → Reading → Reading
 with_place p s = record s { line = p }
 
 -- the byte was read, and the board came of it if a game ends with it
-abbrev pub ReadsByte : RecordScanner → RecordScanner → ℕ → Told → Result Bool RefusedRecord → Type 0
+abbrev pub ReadsByte :
+    RecordScanner → RecordScanner → ℕ → Told → Result Bool RefusedRecord → Type 0
 ReadsByte s t byte told r = IfOk r (λ ended. (rest : List ℕ) → spells_from s (byte ∷ rest)
     ≡ after (list_of (told_if ended told)) (spells_from t rest))
 
