@@ -67,7 +67,8 @@ RefusesByte s byte r =
     IfErr r (λ e. (rest : List ℕ) → spells_from s (byte ∷ rest) ≡ refused_with e)
 
 -- these many bytes were read, and the board came of them
-pub record Reads (s t : RecordScanner) (bytes : List ℕ) (count : ℕ) (board : Option Told) : Type 0 where
+pub record Reads (s t : RecordScanner) (bytes : List ℕ) (count : ℕ) (board : Option Told)
+    : Type 0 where
   pub within : count ≤ length bytes
   pub spells : (rest : List ℕ) → spells_from s (bytes ++ rest)
       ≡ after (list_of board) (spells_from t (drop count bytes ++ rest))
