@@ -82,7 +82,8 @@ tag_lines name value rest = simp append_assoc refl
 not_none : (a b : ℕ) → (a + b + 5 == 0) ≡ false
 not_none a b = ne_eqb (a + b + 5) 0 (λ e. omega (arith, e))
 
-pub tag_line : (kind : TagKind) (name value rest : List ℕ) (lines last : ℕ) (g : Game) → IsTag name value → kind_of name ≡ Some kind → has kind g ≡ false
+pub tag_line : (kind : TagKind) (name value rest : List ℕ) (lines last : ℕ) (g : Game)
+    → IsTag name value → kind_of name ≡ Some kind → has kind g ≡ false
     → spells_from (plainly (in_game lines last g)) (tag name value ++ rest) ≡ spells_from
     (plainly (in_game (lines + 1) last (with_tag kind value (lines + 1) g))) rest
 tag_line kind name value rest lines last g is_tag named free =

@@ -60,7 +60,8 @@ pub reads_refused : (s t : RecordScanner) (bytes : List ℕ) (n : ℕ) (e : Refu
     → (rest : List ℕ) → spells_from s (bytes ++ rest) ≡ refused_with e
 reads_refused s t bytes n e p refused rest = p.spells rest ∙ (rw (take_rest bytes n) at refused rest)
 
-pub first_read : (s t : RecordScanner) (told : Told) (b : ℕ) (bytes : List ℕ) (r : Result Bool RefusedRecord) → 0 < length bytes → b ≡ get_or bytes 0 0
+pub first_read : (s t : RecordScanner) (told : Told) (b : ℕ) (bytes : List ℕ) (r : Result Bool RefusedRecord)
+    → 0 < length bytes → b ≡ get_or bytes 0 0
     → IfOk r (λ ended. (rest : List ℕ) → spells_from s (b ∷ rest) ≡ after (list_of (told_if ended told))
     (spells_from t rest)) → ((n : ℕ) → IsWithin s n → OnOk r (IsWithin t (n + 1)))
     → IfOk r (λ ended. Reads s t bytes 1 (told_if ended told))

@@ -7,5 +7,6 @@ pub returns-in-Some : goal.returns-in-Some
 returns-in-Some c words at =
     let unknown = sym c.unknown_in.ensures ∙ ap is_some c.in-Some.is in (
       λ some. refused_asked words InvalidValue (at.unknown unknown) some,
-      refused_kind words InvalidValue c.or_out_of_memory.result (at.unknown unknown) (c.or_out_of_memory.ensures InvalidValue c.invalid_value.ensures),
+      refused_kind words InvalidValue c.or_out_of_memory.result (at.unknown unknown)
+          (c.or_out_of_memory.ensures InvalidValue c.invalid_value.ensures),
     )
