@@ -4,9 +4,9 @@ use Rattle.cond_lang.specs.Continuations.{IsBeginning}
 use Rattle.cond_lang.specs.declared.scanner.Token.{Token}
 use Rattle.cond_lang.proofs.Asking.{question_begins}
 use Rattle.explain_conditions.specs.Asked.{Begins}
-use Rattle.explain_conditions.specs.declared.asked.Asked.{Asked}
-use Rattle.explain_conditions.specs.declared.asked.Asked.TheVariants.{Condition, Question}
+use Rattle.explain_conditions.specs.declared.asked.TextKind.{TextKind}
+use Rattle.explain_conditions.specs.declared.asked.TextKind.TheVariants.{Condition, Question}
 
-pub begins : (asked : Asked) (text : List ℕ) (T : List Token) → IsBeginning text T → Begins asked text T
+pub begins : (asked : TextKind) (text : List ℕ) (T : List Token) → IsBeginning text T → Begins asked text T
 begins Condition text T b = b
 begins Question text T b = question_begins text T b

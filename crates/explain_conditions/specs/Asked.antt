@@ -7,21 +7,21 @@ use Rattle.cond_lang.specs.Definitions.{TellsName}
 use Rattle.cond_lang.specs.declared.scanner.Token.{Token}
 use Rattle.cond_lang.specs.declared.words.Kind.{Kind}
 use Rattle.cond_lang.specs.declared.words.Kind.TheVariants as kind
-use Rattle.explain_conditions.specs.declared.asked.Asked.{Asked}
-use Rattle.explain_conditions.specs.declared.asked.Asked.TheVariants.{Condition, Question}
+use Rattle.explain_conditions.specs.declared.asked.TextKind.{TextKind}
+use Rattle.explain_conditions.specs.declared.asked.TextKind.TheVariants.{Condition, Question}
 
 -- what a person calls it
-abbrev pub asked_name : Asked → List ℕ
+abbrev pub asked_name : TextKind → List ℕ
 asked_name Condition = codes "condition"
 asked_name Question = codes "question"
 
 -- the list is the longest beginning of the text that one goes on with
-abbrev pub Begins : Asked → List ℕ → List Token → Type 0
+abbrev pub Begins : TextKind → List ℕ → List Token → Type 0
 Begins Condition text T = IsBeginning text T
 Begins Question text T = IsAskBeginning text T
 
 -- after the list some token of the kind may come
-abbrev pub CanStand : Asked → List Token → Kind → Type 0
+abbrev pub CanStand : TextKind → List Token → Kind → Type 0
 CanStand Condition T k = CanFollow T k
 CanStand Question T k = CanFollowAsking T k
 

@@ -10,8 +10,8 @@ use Rattle.cond_lang.specs.declared.classes.Quantifier.TheVariants.{Any, Every}
 use Rattle.cond_lang.specs.declared.words.Kind.{Kind}
 use Rattle.cond_lang.specs.declared.words.Kind.TheVariants as kind
 use Rattle.sinks.specs.Shown.{shown}
-use Rattle.explain_conditions.specs.declared.expected.Part.{Part}
-use Rattle.explain_conditions.specs.declared.expected.Part.TheVariants as part
+use Rattle.explain_conditions.specs.declared.expected.KindGroup.{KindGroup}
+use Rattle.explain_conditions.specs.declared.expected.KindGroup.TheVariants as part
 use Rattle.explain_conditions.specs.declared.expected.Term.{Term}
 use Rattle.explain_conditions.specs.declared.expected.Term.TheVariants as term
 
@@ -40,17 +40,17 @@ begins_value kind.Shortest = true
 begins_value _ = false
 
 -- the kinds in three parts
-abbrev pub is_in : Part → Kind → Bool
+abbrev pub is_in : KindGroup → Kind → Bool
 is_in part.Test k = begins_test k
 is_in part.Value k = begins_value k
 is_in part.Other k = not (begins_test k) && not (begins_value k)
 
 -- all kinds of the list that are in the part may come there
-abbrev pub has_all : (Kind → Bool) → Part → List Kind → Bool
+abbrev pub has_all : (Kind → Bool) → KindGroup → List Kind → Bool
 has_all can part kinds = list_all (λ k. not (is_in part k) || can k) kinds
 
 -- the kinds of the list that are in the part and may come there, each by itself
-abbrev pub each : (Kind → Bool) → Part → List Kind → List Term
+abbrev pub each : (Kind → Bool) → KindGroup → List Kind → List Term
 each can part kinds = map term.One (filter (λ k. is_in part k && can k) kinds)
 
 -- the kinds that begin a value, as one term if all of them may come there

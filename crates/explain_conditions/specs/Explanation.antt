@@ -10,8 +10,8 @@ use Rattle.cond_lang.specs.declared.scanner.Token.{Token}
 use Rattle.cond_lang.specs.Faults.{HasFault}
 use Rattle.cond_lang.specs.Continuations.{ends_with_let}
 use Rattle.cond_lang.specs.Cut.{HasNames}
-use Rattle.explain_conditions.specs.declared.asked.Asked.{Asked}
-use Rattle.explain_conditions.specs.declared.asked.Asked.TheVariants.{Condition, Question}
+use Rattle.explain_conditions.specs.declared.asked.TextKind.{TextKind}
+use Rattle.explain_conditions.specs.declared.asked.TextKind.TheVariants.{Condition, Question}
 use Rattle.explain_conditions.specs.Asked.{Begins, CanStand, IsOfValue, IsTold, asked_name}
 use Rattle.sinks.specs.Shown.{shown}
 use Rattle.explain_conditions.specs.Excerpt.{IsExcerpt}
@@ -27,7 +27,7 @@ MayHint written = (written ≡ []) ⊎ ((bytes : List ℕ) × (written ≡ hint_
 
 -- the line of all kinds that may come after the longest beginning of the text, and of its names,
 -- and no other
-pub record TellsAll (asked : Asked) (text written : List ℕ) : Type 0 where
+pub record TellsAll (asked : TextKind) (text written : List ℕ) : Type 0 where
   pub beginning : List Token
   pub begins : Begins asked text beginning
   pub names : List (List ℕ)
@@ -43,7 +43,7 @@ abbrev pub IsFaulty : List ℕ → Type 0
 IsFaulty text = (1024 < length text) ⊎ ((fault : CondError) × HasFault text fault)
 
 -- what may come there; nothing of a text that has no tokens
-abbrev pub MayTell : Asked → List ℕ → List ℕ → Type 0
+abbrev pub MayTell : TextKind → List ℕ → List ℕ → Type 0
 MayTell asked text written = TellsAll asked text written ⊎ ((written ≡ []) × IsFaulty text)
 
 -- the excerpt of the text, then what may come there, then perhaps a hint
@@ -62,13 +62,13 @@ abbrev pub Nothing : List ℕ → Type 0
 Nothing written = written ≡ []
 
 -- the hint for a text that is too long
-abbrev pub length_line : Asked → List ℕ → List ℕ
+abbrev pub length_line : TextKind → List ℕ → List ℕ
 length_line asked text =
     codes "  hint: a " ++ asked_name asked ++ codes " has at most 1024 bytes, and this one has "
     ++ decimal (length text) ++ codes "\n"
 
 -- what is written of a text that is refused so, where it was read as what was asked for
-abbrev pub ExplainsAs : Asked → List ℕ → CondError → List ℕ → Type 0
+abbrev pub ExplainsAs : TextKind → List ℕ → CondError → List ℕ → Type 0
 ExplainsAs asked text TooLong written = written ≡ length_line asked text
 ExplainsAs asked text (Byte at) written = Shows Nothing text at written
 ExplainsAs asked text (Word at) written = Shows Nothing text at written

@@ -8,21 +8,21 @@ use cond_lang::{Beginning, CondError, Kind};
 
 /// What a text was read as.
 #[derive(Clone, Copy)]
-pub(crate) enum Asked {
+pub(crate) enum TextKind {
     /// A condition.
     Condition,
     /// A question, which is a condition or a value.
     Question,
 }
 
-impl Asked {
+impl TextKind {
     /// What a person calls it.
     pub(crate) fn name(self) -> &'static str
         ensures { result.now ≡ asked_name self }
     {
         match self {
-            Asked::Condition => "condition",
-            Asked::Question => "question",
+            TextKind::Condition => "condition",
+            TextKind::Question => "question",
         }
     }
 
@@ -32,8 +32,8 @@ impl Asked {
         ensures memory { IfErr result (λ e. e ≡ Memory) }
     {
         match self {
-            Asked::Condition => beginning.allows(kind),
-            Asked::Question => beginning.allows_in_question(kind),
+            TextKind::Condition => beginning.allows(kind),
+            TextKind::Question => beginning.allows_in_question(kind),
         }
     }
 }

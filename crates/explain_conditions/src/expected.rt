@@ -25,7 +25,7 @@ pub(crate) enum Term {
 
 /// The kinds in three parts.
 #[derive(Clone, Copy)]
-pub(crate) enum Part {
+pub(crate) enum KindGroup {
     /// Those that begin a condition and no value.
     Test,
     /// Those that begin a value.
@@ -57,13 +57,13 @@ fn begins_value(kind: Kind) -> bool
 }
 
 /// Whether the kind is in the part.
-fn is_in(part: Part, kind: Kind) -> bool
+fn is_in(part: KindGroup, kind: Kind) -> bool
     ensures { result ≡ is_in part kind }
 {
     match part {
-        Part::Test => begins_test(kind),
-        Part::Value => begins_value(kind),
-        Part::Other => !begins_test(kind) && !begins_value(kind),
+        KindGroup::Test => begins_test(kind),
+        KindGroup::Value => begins_value(kind),
+        KindGroup::Other => !begins_test(kind) && !begins_value(kind),
     }
 }
 
@@ -103,20 +103,20 @@ fn terms(
         terms.push(Term::NewName)?;
         return Ok(terms);
     }
-    let value = has_all(can, Part::Value, &Kind::ALL);
-    if has_all(can, Part::Test, &Kind::ALL) && value {
+    let value = has_all(can, KindGroup::Value, &Kind::ALL);
+    if has_all(can, KindGroup::Test, &Kind::ALL) && value {
         terms.push(Term::Condition)?;
     } else {
-        put_each(&mut terms, can, Part::Test, &Kind::ALL)?;
+        put_each(&mut terms, can, KindGroup::Test, &Kind::ALL)?;
         if value {
             terms.push(Term::Value)?;
         } else {
-            put_each(&mut terms, can, Part::Value, &Kind::ALL)?;
+            put_each(&mut terms, can, KindGroup::Value, &Kind::ALL)?;
         }
     }
     put_names(&mut terms, can, false, names)?;
     put_names(&mut terms, can, true, names)?;
-    put_each(&mut terms, can, Part::Other, &Kind::ALL)?;
+    put_each(&mut terms, can, KindGroup::Other, &Kind::ALL)?;
     Ok(terms)
 }
 
@@ -157,7 +157,7 @@ fn put_names(
 }
 
 /// Whether all these kinds that are in the part are in the set.
-fn has_all(can: &KindSet, part: Part, kinds: &[Kind]) -> bool
+fn has_all(can: &KindSet, part: KindGroup, kinds: &[Kind]) -> bool
     ensures { result ≡ has_all (in_set can.now) part kinds.now }
 {
     kinds
@@ -169,7 +169,7 @@ fn has_all(can: &KindSet, part: Part, kinds: &[Kind]) -> bool
 fn put_each(
     terms: &mut Vec<Term>,
     can: &KindSet,
-    part: Part,
+    part: KindGroup,
     kinds: &[Kind],
 ) -> Result<(), AllocError>
     ensures { OnOk result (terms.new.items

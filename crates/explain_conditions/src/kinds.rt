@@ -7,7 +7,7 @@ ghost use Rattle.cond_lang.specs.declared.words.Kind.{Kind as AKind};
 ghost use Rattle.explain_conditions.specs.Asked.{CanStand, IsOfValue, IsTold};
 ghost use Rattle.explain_conditions.specs.internal.Kinds.{in_set, of_value};
 
-use crate::asked::Asked;
+use crate::asked::TextKind;
 use crate::rules::Kinds;
 use arrayvec::ArrayVec;
 use cond_lang::{Beginning, CondError, Kind};
@@ -25,7 +25,7 @@ impl KindSet {
     /// The kinds, and the text's first `count` names, that may come after the beginning of what is
     /// asked for. The only error is `Memory`.
     pub(crate) fn of(
-        asked: Asked,
+        asked: TextKind,
         beginning: &Beginning,
         count: usize,
     ) -> Result<KindSet, CondError>
@@ -81,7 +81,7 @@ impl KindSet {
 
 /// Of each of the first `count` names, whether it may come. The only error is `Memory`.
 fn names_that_may_come(
-    asked: Asked,
+    asked: TextKind,
     beginning: &Beginning,
     count: usize,
 ) -> Result<ArrayVec<bool, 5121>, CondError>

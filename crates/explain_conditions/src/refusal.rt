@@ -7,7 +7,7 @@ ghost use Rattle.explain_conditions.specs.Explanation.{ExplainsQuestion, IsFault
 ghost use Rattle.explain_conditions.specs.Explanation.{MayHint, MayTell, Nothing, Shows, length_line};
 ghost use Rattle.explain_conditions.specs.internal.Appends.{Appends};
 
-use crate::asked::Asked;
+use crate::asked::TextKind;
 use crate::excerpt::put_excerpt;
 use crate::expected::put_expected;
 use crate::kinds::KindSet;
@@ -38,7 +38,7 @@ const ONLY_DEFINITIONS: &[u8] =
 pub fn explain(alloc: Global, text: &[u8], error: CondError) -> Result<String, AllocError>
     ensures { IfOk result (λ written. Explains text.now error (string_bytes written)) }
 {
-    explain_as(alloc, Asked::Condition, text, error)
+    explain_as(alloc, TextKind::Condition, text, error)
 }
 
 /// Returns what helps a person with a text that is refused as a question: the same lines, of what
@@ -50,7 +50,7 @@ pub fn explain(alloc: Global, text: &[u8], error: CondError) -> Result<String, A
 pub fn explain_question(alloc: Global, text: &[u8], error: CondError) -> Result<String, AllocError>
     ensures { IfOk result (λ written. ExplainsQuestion text.now error (string_bytes written)) }
 {
-    explain_as(alloc, Asked::Question, text, error)
+    explain_as(alloc, TextKind::Question, text, error)
 }
 
 /// Returns what helps a person with a text that is refused as definitions alone: the same lines, of
@@ -77,7 +77,7 @@ pub fn explain_definitions(
             if may_define(alloc, text, at)? {
                 put_no_definition(alloc, &mut out, text, at)?
             } else {
-                put_syntax(alloc, &mut out, Asked::Condition, text, at)?
+                put_syntax(alloc, &mut out, TextKind::Condition, text, at)?
             }
         }
         CondError::TooManyParts | CondError::Memory => {}
@@ -88,7 +88,7 @@ pub fn explain_definitions(
 /// The lines, of a text that was read as what is asked for.
 fn explain_as(
     alloc: Global,
-    asked: Asked,
+    asked: TextKind,
     text: &[u8],
     error: CondError,
 ) -> Result<String, AllocError>
@@ -119,7 +119,7 @@ fn put_piece(alloc: Global, out: &mut String, text: &[u8], at: usize) -> Result<
 fn put_syntax(
     alloc: Global,
     out: &mut String,
-    asked: Asked,
+    asked: TextKind,
     text: &[u8],
     at: usize,
 ) -> Result<(), AllocError>
@@ -186,7 +186,7 @@ fn beginning_of(alloc: Global, text: &[u8]) -> Result<Option<Beginning>, AllocEr
 }
 
 /// Appends the hint for a text that is too long.
-fn put_length(out: &mut String, asked: Asked, text: &[u8]) -> Result<(), AllocError>
+fn put_length(out: &mut String, asked: TextKind, text: &[u8]) -> Result<(), AllocError>
     ensures { OnOk result (string_bytes out.new
         ≡ string_bytes out.old ++ length_line asked text.now) }
 {

@@ -9,7 +9,7 @@ use std::alloc::Global;
 
 /// The least or the most that a comparison leaves a value.
 #[derive(Clone, Copy)]
-enum Bound {
+enum Limit {
     Least(usize),
     Most(usize),
 }
@@ -33,24 +33,24 @@ pub(crate) fn hint(alloc: Global, parts: &Parts) -> Said {
         return Ok(None);
     };
     match (first, second) {
-        (Bound::Least(low), Bound::Most(high)) | (Bound::Most(high), Bound::Least(low))
+        (Limit::Least(low), Limit::Most(high)) | (Limit::Most(high), Limit::Least(low))
             if low <= high => { range(alloc, value, low, high) }
         _ => Ok(None),
     }
 }
 
 /// What a comparison with a number leaves the value on one side of it.
-fn left_by(parts: &Parts, sign: usize, number_at: usize, is_left: bool) -> Option<Bound> {
+fn left_by(parts: &Parts, sign: usize, number_at: usize, is_left: bool) -> Option<Limit> {
     let digits = parts.at(number_at);
     if !is_number(digits) {
         return None;
     }
     let number = number(digits);
     match (parts.at(sign), is_left) {
-        (b">=", false) | (b"<=", true) => Some(Bound::Least(number)),
-        (b">", false) | (b"<", true) => Some(Bound::Least(number.saturating_add(1))),
-        (b"<=", false) | (b">=", true) => Some(Bound::Most(number)),
-        (b"<", false) | (b">", true) => Some(Bound::Most(number.checked_sub(1)?)),
+        (b">=", false) | (b"<=", true) => Some(Limit::Least(number)),
+        (b">", false) | (b"<", true) => Some(Limit::Least(number.saturating_add(1))),
+        (b"<=", false) | (b">=", true) => Some(Limit::Most(number)),
+        (b"<", false) | (b">", true) => Some(Limit::Most(number.checked_sub(1)?)),
         _ => None,
     }
 }

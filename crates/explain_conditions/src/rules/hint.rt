@@ -17,7 +17,7 @@ pub type Said = Result<Option<Vec<u8>>, AllocError>;
 
 /// What may have a hint: a table, or code.
 #[derive(Clone, Copy)]
-enum Source {
+enum HintSource {
     Calls,
     Classes,
     Compared,
@@ -54,45 +54,45 @@ enum Source {
 }
 
 /// What is asked of a piece that isn't in the language, and of a token that isn't allowed there.
-static EITHER: [Source; 14] = [
-    Source::Given,
-    Source::Texts,
-    Source::Whole,
-    Source::Plain,
-    Source::Sides,
-    Source::Outside,
-    Source::Phrases,
-    Source::Suits,
-    Source::Classes,
-    Source::Bounds,
-    Source::Several,
-    Source::Lists,
-    Source::Ranges,
-    Source::MoreOrLess,
+static EITHER: [HintSource; 14] = [
+    HintSource::Given,
+    HintSource::Texts,
+    HintSource::Whole,
+    HintSource::Plain,
+    HintSource::Sides,
+    HintSource::Outside,
+    HintSource::Phrases,
+    HintSource::Suits,
+    HintSource::Classes,
+    HintSource::Bounds,
+    HintSource::Several,
+    HintSource::Lists,
+    HintSource::Ranges,
+    HintSource::MoreOrLess,
 ];
 
 /// What is asked of a piece after `EITHER`.
-static PIECE: [Source; 16] = [
-    Source::NameLikeness,
-    Source::Lessons,
-    Source::OrMore,
-    Source::Limits,
-    Source::Compared,
-    Source::Letters,
-    Source::Nouns,
-    Source::Scripts,
-    Source::Short,
-    Source::Instead,
-    Source::Honours,
-    Source::Ranks,
-    Source::Names,
-    Source::Likeness,
-    Source::Signs,
-    Source::Rest,
+static PIECE: [HintSource; 16] = [
+    HintSource::NameLikeness,
+    HintSource::Lessons,
+    HintSource::OrMore,
+    HintSource::Limits,
+    HintSource::Compared,
+    HintSource::Letters,
+    HintSource::Nouns,
+    HintSource::Scripts,
+    HintSource::Short,
+    HintSource::Instead,
+    HintSource::Honours,
+    HintSource::Ranks,
+    HintSource::Names,
+    HintSource::Likeness,
+    HintSource::Signs,
+    HintSource::Rest,
 ];
 
 /// What is asked of a token after `EITHER`; before it, the rules for shapes.
-static TOKEN: [Source; 3] = [Source::Factors, Source::Calls, Source::Joins];
+static TOKEN: [HintSource; 3] = [HintSource::Factors, HintSource::Calls, HintSource::Joins];
 
 /// Returns the hint for the piece at the byte `at` of the text, which isn't in the language, if a
 /// rule has one.
@@ -134,7 +134,7 @@ fn of_either(alloc: Global, parts: &Parts) -> Said {
 }
 
 /// The first hint that one of these has.
-fn first_of(alloc: Global, parts: &Parts, sources: &[Source]) -> Said {
+fn first_of(alloc: Global, parts: &Parts, sources: &[HintSource]) -> Said {
     for source in sources {
         let said = hint_of(alloc, parts, *source)?;
         if said.is_some() {
@@ -144,48 +144,51 @@ fn first_of(alloc: Global, parts: &Parts, sources: &[Source]) -> Said {
     Ok(None)
 }
 
-fn hint_of(alloc: Global, parts: &Parts, source: Source) -> Said {
+fn hint_of(alloc: Global, parts: &Parts, source: HintSource) -> Said {
     match source {
-        Source::Outside => outside::hint(alloc, parts),
-        Source::Bounds => bounds::hint(alloc, parts),
-        Source::NameLikeness => likeness::name_hint(alloc, parts),
-        Source::Likeness => likeness::hint(alloc, parts),
+        HintSource::Outside => outside::hint(alloc, parts),
+        HintSource::Bounds => bounds::hint(alloc, parts),
+        HintSource::NameLikeness => likeness::name_hint(alloc, parts),
+        HintSource::Likeness => likeness::hint(alloc, parts),
         _ => first_in(alloc, parts, rules_of(source)),
     }
 }
 
 /// The rules of a table.
-fn rules_of(source: Source) -> &'static str {
+fn rules_of(source: HintSource) -> &'static str {
     match source {
-        Source::Calls => calls::RULES,
-        Source::Classes => classes::RULES,
-        Source::Compared => compared::RULES,
-        Source::Factors => factors::RULES,
-        Source::Given => given::RULES,
-        Source::Honours => honours::RULES,
-        Source::Instead => instead::RULES,
-        Source::Joins => joins::RULES,
-        Source::Lessons => lessons::RULES,
-        Source::Letters => letters::RULES,
-        Source::Limits => limits::RULES,
-        Source::Lists => lists::RULES,
-        Source::MoreOrLess => more_or_less::RULES,
-        Source::Names => names::RULES,
-        Source::Nouns => nouns::RULES,
-        Source::OrMore => or_more::RULES,
-        Source::Phrases => phrases::RULES,
-        Source::Plain => plain::RULES,
-        Source::Ranges => ranges::RULES,
-        Source::Ranks => ranks::RULES,
-        Source::Rest => rest::RULES,
-        Source::Scripts => scripts::RULES,
-        Source::Several => several::RULES,
-        Source::Short => short::RULES,
-        Source::Sides => sides::RULES,
-        Source::Signs => signs::RULES,
-        Source::Suits => suits::RULES,
-        Source::Texts => texts::RULES,
-        Source::Whole => whole::RULES,
-        Source::Outside | Source::Bounds | Source::NameLikeness | Source::Likeness => "",
+        HintSource::Calls => calls::RULES,
+        HintSource::Classes => classes::RULES,
+        HintSource::Compared => compared::RULES,
+        HintSource::Factors => factors::RULES,
+        HintSource::Given => given::RULES,
+        HintSource::Honours => honours::RULES,
+        HintSource::Instead => instead::RULES,
+        HintSource::Joins => joins::RULES,
+        HintSource::Lessons => lessons::RULES,
+        HintSource::Letters => letters::RULES,
+        HintSource::Limits => limits::RULES,
+        HintSource::Lists => lists::RULES,
+        HintSource::MoreOrLess => more_or_less::RULES,
+        HintSource::Names => names::RULES,
+        HintSource::Nouns => nouns::RULES,
+        HintSource::OrMore => or_more::RULES,
+        HintSource::Phrases => phrases::RULES,
+        HintSource::Plain => plain::RULES,
+        HintSource::Ranges => ranges::RULES,
+        HintSource::Ranks => ranks::RULES,
+        HintSource::Rest => rest::RULES,
+        HintSource::Scripts => scripts::RULES,
+        HintSource::Several => several::RULES,
+        HintSource::Short => short::RULES,
+        HintSource::Sides => sides::RULES,
+        HintSource::Signs => signs::RULES,
+        HintSource::Suits => suits::RULES,
+        HintSource::Texts => texts::RULES,
+        HintSource::Whole => whole::RULES,
+        HintSource::Outside
+        | HintSource::Bounds
+        | HintSource::NameLikeness
+        | HintSource::Likeness => "",
     }
 }

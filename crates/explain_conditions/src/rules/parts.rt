@@ -8,7 +8,7 @@ use std::alloc::{AllocError, Global};
 
 /// What a byte belongs to.
 #[derive(Clone, Copy)]
-enum Class {
+enum ByteClass {
     Blank,
     Comment,
     Letter,
@@ -23,7 +23,7 @@ enum Class {
 
 /// A part of a text, from its byte `at` on.
 #[derive(Clone, Copy)]
-struct Part<'t> {
+struct TextPart<'t> {
     at: usize,
     bytes: &'t [u8],
 }
@@ -32,7 +32,7 @@ struct Part<'t> {
 pub(crate) struct Parts<'t> {
     text: &'t [u8],
     /// The parts, after an empty one: so nothing is at 0, and nothing after the last.
-    parts: Vec<Part<'t>>,
+    parts: Vec<TextPart<'t>>,
     /// Where the part with the fault is, or the end.
     pub fault: usize,
     /// That part in small letters.
@@ -53,30 +53,30 @@ impl<'t> Drop for Parts<'t> {
     }
 }
 
-fn class_of(byte: u8) -> Class {
+fn class_of(byte: u8) -> ByteClass {
     if byte.is_ascii_alphabetic() {
-        Class::Letter
+        ByteClass::Letter
     } else if byte.is_ascii_digit() {
-        Class::Digit
+        ByteClass::Digit
     } else if !byte.is_ascii() {
-        Class::Wide
+        ByteClass::Wide
     } else if b" \t\n\r".contains(&byte) {
-        Class::Blank
+        ByteClass::Blank
     } else if b"=!<>&|".contains(&byte) {
-        Class::Relation
+        ByteClass::Relation
     } else if byte == b'#' {
-        Class::Comment
+        ByteClass::Comment
     } else {
-        Class::Single
+        ByteClass::Single
     }
 }
 
 /// How many bytes of the class the text begins with; of a comment, up to the end of the line.
-fn run_len(text: &[u8], class: Class) -> usize
+fn run_len(text: &[u8], class: ByteClass) -> usize
     ensures { result ≤ length text.now }
 {
     for (i, byte) in text.iter().enumerate() {
-        let goes_on = if class == Class::Comment {
+        let goes_on = if class == ByteClass::Comment {
             *byte != b'\n'
         } else {
             class_of(*byte) == class
@@ -89,14 +89,14 @@ fn run_len(text: &[u8], class: Class) -> usize
 }
 
 /// The class of the text's first part, and its length.
-fn first_part(text: &[u8]) -> (Class, usize)
+fn first_part(text: &[u8]) -> (ByteClass, usize)
     requires { 0 < length text.now }
     ensures some { 0 < result.1 }
     ensures within { result.1 ≤ length text.now }
 {
     let class = class_of(text[0]);
     let len = match class {
-        Class::Blank | Class::Single => 1,
+        ByteClass::Blank | ByteClass::Single => 1,
         _ => run_len(text, class),
     };
     (class, len.max(1))
@@ -121,15 +121,15 @@ impl<'t> Parts<'t> {
         can: Kinds,
     ) -> Result<Parts<'t>, AllocError> {
         let mut parts = Vec::new(alloc);
-        parts.push(Part { at: 0, bytes: b"" })?;
+        parts.push(TextPart { at: 0, bytes: b"" })?;
         let mut rest = text;
         let mut start = 0;
         let mut fault = 1;
         while !rest.is_empty() {
             let (class, len) = first_part(rest);
             let (bytes, more) = rest.split_at(len);
-            if class != Class::Blank && class != Class::Comment {
-                parts.push(Part { at: start, bytes })?;
+            if class != ByteClass::Blank && class != ByteClass::Comment {
+                parts.push(TextPart { at: start, bytes })?;
             }
             start += len;
             rest = more;
@@ -357,7 +357,7 @@ impl<'t> Parts<'t> {
     }
 }
 
-fn bytes_at<'t>(parts: &[Part<'t>], i: usize) -> &'t [u8] {
+fn bytes_at<'t>(parts: &[TextPart<'t>], i: usize) -> &'t [u8] {
     match parts.get(i) {
         Some(part) => part.bytes,
         None => b"",

@@ -1,4 +1,4 @@
-use Rattle.explain_conditions.proofs.asked.Asked.allows.Goals as goal
+use Rattle.explain_conditions.proofs.asked.TextKind.allows.Goals as goal
 
 pub returns-in-Condition-clause-allowed : goal.returns-in-Condition-clause-allowed
 returns-in-Condition-clause-allowed c = rw c.in-Condition.is c.allows.ensures.allowed
