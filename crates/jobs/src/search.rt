@@ -209,10 +209,10 @@ fn numbers_of(search: &Search<'_>, look: &Look<'_>) -> Result<Plan, PlanError>
         search.lane(),
     )?;
     let plan = match search.boards {
-        Some(boards) => plan.with_limit(boards)?,
+        Some(boards) => plan.limited(boards)?,
         None => plan,
     };
-    plan.with_first_board(look.first_board())
+    plan.numbered(look.first_board())
 }
 
 /// Returns the cards that are fixed. The first text that isn't a hand, or has a card of an earlier
@@ -252,7 +252,7 @@ pub fn planned(search: &Search<'_>, look: &Look<'_>) -> Result<(Plan, Captions),
     let heading = read_heading(look)?;
     let fixed = fixed_of(search)?;
     let plan = plan
-        .with_heading(heading.labels())
+        .headed(heading.labels())
         .with_setting(read_setting(look));
     Ok((plan.with_fixed(fixed), heading))
 }

@@ -146,7 +146,7 @@ impl Plan {
     ///
     /// # Errors
     /// `Boards` if the limit is 0.
-    pub fn with_limit(self, most: u32) -> Result<Plan, PlanError>
+    pub fn limited(self, most: u32) -> Result<Plan, PlanError>
         ensures some { IsErr result ↔ (most ≡ 0) }
         ensures made { IfOk result (λ p. p ≡ record self { limit = Some most }) }
         ensures refused { IfErr result (λ e. e ≡ PlanError.Boards) }
@@ -164,7 +164,7 @@ impl Plan {
     ///
     /// # Errors
     /// `FirstBoard` unless the number is 1 to 2^40.
-    pub fn with_first_board(self, first_board: u64) -> Result<Plan, PlanError>
+    pub fn numbered(self, first_board: u64) -> Result<Plan, PlanError>
         ensures in_range { IsOk result ↔ ((0 < first_board) × (first_board ≤ 2 ^ 40)) }
         ensures made { IfOk result (λ p. p ≡ record self { first_board = first_board }) }
         ensures refused { IfErr result (λ e. e ≡ PlanError.FirstBoard) }
@@ -187,7 +187,7 @@ impl Plan {
     }
 
     /// The plan with the labels of each game.
-    pub fn with_heading(self, heading: Heading) -> Plan
+    pub fn headed(self, heading: Heading) -> Plan
         ensures { result ≡ record self { heading = heading } }
     {
         Plan { heading, ..self }

@@ -77,7 +77,7 @@ const TEXT: &[u8] = b"begin\n8 7\n9 8\n0 9\n1 0\n2 1\n5 5\n";
 /// The plan of this many candidates of seed 0 from 7 on, as boards from 98 on.
 fn plan_from_7(rt: &impl Abort, count: u64, workers: u32, capacity: u32) -> Plan {
     let plan = Plan::new(0, 7, count, workers, capacity).expect(rt, "a plan");
-    plan.with_first_board(98).expect(rt, "a plan")
+    plan.numbered(98).expect(rt, "a plan")
 }
 
 #[test]
@@ -87,7 +87,7 @@ fn writes_header_boards_and_footer(rt: HostRuntime) {
             for plan in [
                 plan_from_7(&rt, 5, workers, capacity),
                 plan_from_7(&rt, 200, workers, capacity)
-                    .with_limit(5)
+                    .limited(5)
                     .expect(&rt, "a plan"),
             ] {
                 plain_writes_all(&rt, rt.alloc(), &plan);

@@ -163,7 +163,7 @@ fn core_stops(rt: &impl Abort, taken: u64, left: u64) {
 /// sent, and the lane that it closed then, are events that the core allows.
 #[test]
 fn replays_a_limit_on_the_core(rt: HostRuntime) {
-    let plan = plan_of(&rt, 10, 1).with_limit(3).expect(&rt, "a plan");
+    let plan = plan_of(&rt, 10, 1).limited(3).expect(&rt, "a plan");
     let mut sink = MemSink::new(rt.alloc());
     let gate = Arc::new(rt.alloc(), OpenGate).expect(&rt, "memory");
     let end = run_all(&rt, rt.alloc(), &plan, &mut sink, gate);

@@ -9,9 +9,7 @@ use std::process::Abort;
 
 /// Ten candidates of seed 7 from candidate 5 on, at most three boards from 19 on.
 fn numbered_plan() -> Result<Plan, PlanError> {
-    Plan::new(7, 5, 10, 4, 64)?
-        .with_limit(3)?
-        .with_first_board(19)
+    Plan::new(7, 5, 10, 4, 64)?.limited(3)?.numbered(19)
 }
 
 #[test]
@@ -35,7 +33,7 @@ fn writes_all_deals(rt: HostRuntime) {
     let plan = plan_of(&rt, 200, 1);
     let (boards, all) = run_all_plainly(rt.alloc(), &plan);
     same(&rt, (boards, all.bytes().len()), (Ok(200), 25_052));
-    let (boards, first) = run_all_plainly(rt.alloc(), &plan.with_limit(5).expect(&rt, "a plan"));
+    let (boards, first) = run_all_plainly(rt.alloc(), &plan.limited(5).expect(&rt, "a plan"));
     same(&rt, (boards, first.bytes().len()), (Ok(5), 628));
     assert!(rt; all.bytes().starts_with(first.bytes()));
 }

@@ -82,7 +82,7 @@ fn writes_byte_by_byte<R: Abort + Threads + Wait + Clone + Send + 'static>(
 /// With a limit no candidate is taken after it is met, and what is left of a lane comes next.
 #[test]
 fn stops_at_a_limit(rt: HostRuntime) {
-    let plan = plan_of(&rt, 200, 3).with_limit(5).expect(&rt, "a plan");
+    let plan = plan_of(&rt, 200, 3).limited(5).expect(&rt, "a plan");
     let mut sink = MemSink::new(rt.alloc());
     let gate = Arc::new(rt.alloc(), OpenGate).expect(&rt, "memory");
     let end = run_all(&rt, rt.alloc(), &plan, &mut sink, gate);
