@@ -1,14 +1,17 @@
--- What else is counted in a hand: losers, measures, honours, its longest and its shortest suit, and
--- the suits that it stops.
-use Rattle.std.specs.Prelude.{ℕ, ◌+◌, ◌*◌, nat_le, min, max, not, ◌&&◌, ◌||◌, Bool, false, List, [], ◌∷◌, count_by}
+-- What else is counted in a hand: losers, measures, honours, its lengths in order, and the suits that
+-- it stops.
+use Rattle.std.specs.Prelude.{ℕ, ◌+◌, ◌*◌, nat_le, min, not, ◌&&◌, ◌||◌, Bool, false, List, [], ◌∷◌, count_by}
 use Rattle.std.specs.Prelude.{slice_index_or, unwrap_or, option_map}
 use Rattle.std.specs.List.{range_with_len}
 use Rattle.cards.specs.declared.suit.Suit.{Suit}
 use Rattle.cards.specs.declared.suit.Suit.TheVariants.{Spades, Hearts, Diamonds, Clubs}
 use Rattle.cards.specs.declared.hand.Measure.{Measure}
+use Rattle.cards.specs.declared.hand.Measure.TheVariants.{Losers}
 use Rattle.cards.specs.declared.honours.Honours.{Honours}
+use Rattle.cards.specs.declared.order.Order.{Order}
 use Rattle.cards.specs.Hands.{holds_card, holds_in, length_of, weight_of, weight_in}
 use Rattle.cards.specs.Measures.{weights_of}
+use Rattle.cards.specs.Orders.{ordered}
 use Rattle.cards.specs.Pack.{suit_number, rank_of}
 use Rattle.cards.specs.Ranks.{has_rank}
 use Rattle.cards.specs.Shuffle.{pack}
@@ -20,19 +23,24 @@ losers_in hand suit =
     count_by (λ rank. not (holds_card hand (13 * suit_number suit + rank)))
     (range_with_len 0 (min (length_of hand suit) 3))
 
--- those of the four suits
-abbrev pub losers_of : List Bool → ℕ
-losers_of hand =
-    losers_in hand Spades + losers_in hand Hearts + losers_in hand Diamonds + losers_in hand Clubs
+-- what a measure that counts more than ranks says of the cards of one suit, and of the hand
+abbrev pub counted_in : Measure → List Bool → Suit → ℕ
+counted_in Losers hand suit = losers_in hand suit
+counted_in m hand suit = 0
+
+abbrev pub counted_of : Measure → List Bool → ℕ
+counted_of m hand =
+    counted_in m hand Spades + counted_in m hand Hearts
+    + counted_in m hand Diamonds + counted_in m hand Clubs
 
 -- what a measure says of the hand, and of its cards of one suit
 abbrev pub total_of : Measure → List Bool → ℕ
-total_of measure hand =
-    unwrap_or (option_map (λ w. weight_of w hand) (weights_of measure)) (losers_of hand)
+total_of m hand =
+    unwrap_or (option_map (λ w. weight_of w hand) (weights_of m)) (counted_of m hand)
 
 abbrev pub total_in : Measure → List Bool → Suit → ℕ
-total_in measure hand suit =
-    unwrap_or (option_map (λ w. weight_in w hand suit) (weights_of measure)) (losers_in hand suit)
+total_in m hand suit =
+    unwrap_or (option_map (λ w. weight_in w hand suit) (weights_of m)) (counted_in m hand suit)
 
 -- whether a rank is among the honours
 abbrev pub has_honour : Honours → ℕ → Bool
@@ -49,26 +57,10 @@ abbrev pub honours_in : Honours → List Bool → Suit → ℕ
 honours_in honours hand suit =
     count_by (λ c. has_honour honours (rank_of c) && holds_in hand suit c) pack
 
--- the greatest and the least of the four lengths
-abbrev pub longest_of : List Bool → ℕ
-longest_of hand =
-    max (max (length_of hand Spades) (length_of hand Hearts))
-    (max (length_of hand Diamonds) (length_of hand Clubs))
-
-abbrev pub shortest_of : List Bool → ℕ
-shortest_of hand =
-    min (min (length_of hand Spades) (length_of hand Hearts))
-    (min (length_of hand Diamonds) (length_of hand Clubs))
-
--- the greatest number of cards that two suits reach, which the second longest suit has: of each two
--- suits the shorter length, and of these six the greatest
-abbrev pub greatest_of_two : ℕ → ℕ → ℕ → ℕ → ℕ
-greatest_of_two s h d c =
-    max (max (min s h) (min d c)) (max (max (min s d) (min s c)) (max (min h d) (min h c)))
-
-abbrev pub second_of : List Bool → ℕ
-second_of hand =
-    greatest_of_two
+-- the length of an order among the four
+abbrev pub ordered_of : Order → List Bool → ℕ
+ordered_of o hand =
+    ordered o
     (length_of hand Spades) (length_of hand Hearts)
     (length_of hand Diamonds) (length_of hand Clubs)
 

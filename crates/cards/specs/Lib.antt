@@ -3,6 +3,7 @@ pub mod Shuffle
 pub mod Deals
 pub mod Turning
 pub mod Measures
+pub mod Orders
 pub mod Hands
 pub mod Weights
 pub mod Counts

@@ -4,7 +4,7 @@ use Rattle.std.specs.Prelude.{unwrap_or}
 use Rattle.cards.specs.declared.hand.Measure.{Measure}
 use Rattle.cards.specs.declared.hand.Measure.TheVariants.{Hcp, Controls, Losers}
 
--- what an ace, a king, a queen and a jack count; losers are not counted by ranks alone
+-- what an ace, a king, a queen and a jack count, if the measure counts ranks alone
 abbrev pub weights_of : Measure → Option (List ℕ)
 weights_of Hcp = Some (4 ∷ 3 ∷ 2 ∷ 1 ∷ [])
 weights_of Controls = Some (2 ∷ 1 ∷ 0 ∷ 0 ∷ [])

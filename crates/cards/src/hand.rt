@@ -6,9 +6,9 @@ ghost use Rattle.cards.specs.Pack.{suit_number};
 ghost use Rattle.cards.specs.Hands.{points_of, points_in, length_of, shape_of};
 ghost use Rattle.cards.specs.Counts.{total_of, total_in};
 ghost use Rattle.cards.specs.Hands.{weight_in};
-ghost use Rattle.cards.specs.Counts.{losers_of, losers_in, honours_of, honours_in};
+ghost use Rattle.cards.specs.Counts.{counted_in, counted_of, losers_in, honours_of, honours_in};
 ghost use Rattle.cards.specs.Hands.{is_balanced};
-ghost use Rattle.cards.specs.Counts.{longest_of, second_of, shortest_of, stops_in};
+ghost use Rattle.cards.specs.Counts.{ordered_of, stops_in};
 ghost use Rattle.cards.specs.Balanced.{IsBalanced};
 ghost use Rattle.cards.specs.Ranks.{has_rank, ranks_of};
 ghost use Rattle.cards.specs.internal.Masks.{cards_of_mask};
@@ -16,7 +16,7 @@ ghost use Rattle.cards.specs.internal.BalancedInOrder.{IsBalancedInOrder};
 ghost use Rattle.cards.specs.Measures.{measure_number, measures, weights_of};
 
 use crate::masks::{honours_of_mask, suit_mask, weight_of_mask};
-use crate::{Honours, Suit};
+use crate::{Honours, Order, Suit};
 use std::marker::Model;
 
 /// What an ace, a king, a queen and a jack count in high card points.
@@ -91,7 +91,7 @@ impl Hand {
         }
         match measure.weights() {
             Some(weights) => weight_of_mask(weights, self.cards),
-            None => self.losers(),
+            None => self.counted(measure),
         }
     }
 
@@ -106,7 +106,7 @@ impl Hand {
         }
         match measure.weights() {
             Some(weights) => self.weight_in(weights, suit),
-            None => self.losers_in(suit),
+            None => self.counted_in(measure, suit),
         }
     }
 
@@ -120,13 +120,28 @@ impl Hand {
         weight_of_mask(weights, self.cards & suit_mask(suit))
     }
 
-    /// The losers of the four suits together. At most 12.
-    pub fn losers(&self) -> u8
-        ensures value { result ≡ losers_of self.now }
-        ensures most { result ≤ 12 }
+    /// What the measure counts in the four suits together, if it counts more than ranks.
+    fn counted(&self, measure: Measure) -> u8
+        ensures value { result ≡ counted_of measure self.now }
+        ensures most { result ≤ 40 }
     {
-        let majors = self.losers_in(Suit::Spades) + self.losers_in(Suit::Hearts);
-        majors + self.losers_in(Suit::Diamonds) + self.losers_in(Suit::Clubs)
+        let majors =
+            self.counted_in(measure, Suit::Spades) + self.counted_in(measure, Suit::Hearts);
+        majors
+            + self.counted_in(measure, Suit::Diamonds)
+            + self.counted_in(measure, Suit::Clubs)
+    }
+
+    /// What the measure counts in the suit's cards, if it counts more than ranks.
+    #[inline(always)]
+    fn counted_in(&self, measure: Measure, suit: Suit) -> u8
+        ensures value { result ≡ counted_in measure self.now suit }
+        ensures most { result ≤ 10 }
+    {
+        match measure {
+            Measure::Losers => self.losers_in(suit),
+            _ => 0,
+        }
     }
 
     /// The losers in the suit: the ace if it isn't there, the king if it isn't and the suit has two
@@ -176,29 +191,13 @@ impl Hand {
         ]
     }
 
-    /// The greatest of the four lengths.
-    pub fn longest(&self) -> u8
-        ensures { result ≡ longest_of self.now }
+    /// The length of this order among the four, 0 to 13.
+    pub fn ordered(&self, order: Order) -> u8
+        ensures { result ≡ ordered_of order self.now }
     {
         let [spades, hearts, diamonds, clubs] = self.shape();
-        spades.max(hearts).max(diamonds.max(clubs))
-    }
-
-    /// The second greatest of the four lengths: of 5-5-2-1 it is 5.
-    pub fn second(&self) -> u8
-        ensures { result ≡ second_of self.now }
-    {
-        let [spades, hearts, diamonds, clubs] = self.shape();
-        let alike = spades.min(hearts).max(diamonds.min(clubs));
-        alike.max(spades.max(hearts).min(diamonds.max(clubs)))
-    }
-
-    /// The least of the four lengths.
-    pub fn shortest(&self) -> u8
-        ensures { result ≡ shortest_of self.now }
-    {
-        let [spades, hearts, diamonds, clubs] = self.shape();
-        spades.min(hearts).min(diamonds.min(clubs))
+        let (spades, hearts) = (u64::from(spades), u64::from(hearts));
+        order.of(spades, hearts, u64::from(diamonds), u64::from(clubs)) as u8
     }
 
     /// Whether the four lengths are 4-3-3-3, 4-4-3-2 or 5-3-3-2 in some order.
@@ -294,8 +293,8 @@ impl Measure {
         self as usize
     }
 
-    /// Returns what an ace, a king, a queen and a jack count, at most 10 together. Losers have
-    /// none: ranks alone don't count them.
+    /// Returns what an ace, a king, a queen and a jack count, at most 10 together, or `None` of a
+    /// measure that counts more than ranks.
     #[inline(always)]
     pub fn weights(self) -> Option<[u8; 4]>
         ensures value { result ≡ weights_of self }

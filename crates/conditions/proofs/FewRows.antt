@@ -8,6 +8,7 @@ use Rattle.std.proofs.Math.Nat.{min-le_right, mul-le-mul, mul-le-mul_left}
 use Rattle.cards.specs.declared.hand.Measure.{Measure}
 use Rattle.cards.specs.Measures.{measures, measure_number, measure_listed}
 use Rattle.cards.specs.declared.honours.Honours.{Honours}
+use Rattle.cards.proofs.OrderedLengths.{few_ordered}
 use Rattle.conditions.specs.declared.tree.Count.{Count}
 use Rattle.conditions.specs.declared.tree.Count.TheVariants as counts
 use Rattle.conditions.specs.Bounds.{greatest_count, greatest_of, most_in, most_of, rank_count}
@@ -56,9 +57,7 @@ few_count (counts.SuitTotal m q s) = few_in m
 few_count (counts.Cards q h) = omega (arith, min-le_right (4 * rank_count h) 13)
 few_count (counts.SuitCards q s h) = omega (arith, few_ranks h)
 few_count (counts.Length q s) = omega arith
-few_count (counts.Longest q) = omega arith
-few_count (counts.Second q) = omega arith
-few_count (counts.Shortest q) = omega arith
+few_count (counts.Ordered o q) = omega (arith, few_ordered o)
 
 few_times : (n c : ℕ) → n ≤ 9999 → c ≤ 40 → n * c ≤ 9999 * 40
 few_times n c h i = mul-le-mul h i

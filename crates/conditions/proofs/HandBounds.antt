@@ -1,6 +1,6 @@
 -- What a hand of thirteen cards is at the most.
 use Rattle.std.proofs.Common.{◌≡◌, ◌≤◌, ◌+◌, ◌/◌, ◌&&◌, ◌==◌, ◌∙◌, ℕ, zero, suc, Bool, true, false, cond, List, []}
-use Rattle.std.proofs.Common.{◌∷◌, ap, arith, length, map, max, min, refl, sym}
+use Rattle.std.proofs.Common.{◌∷◌, ap, arith, length, map, refl, sym}
 use Rattle.std.specs.List.{sum_by}
 use Rattle.std.proofs.lemmas.Bool.{true≢false}
 use Rattle.std.proofs.lemmas.List.{get_or_past}
@@ -8,7 +8,6 @@ use Rattle.std.proofs.lemmas.List.FromFn.{fill_by_all}
 use Rattle.std.proofs.lemmas.List.Sums.{sum_by-cons}
 use Rattle.cards.specs.declared.seat.Seat.{Seat}
 use Rattle.cards.specs.declared.suit.Suit.TheVariants.{Spades, Hearts, Diamonds, Clubs}
-use Rattle.cards.specs.Counts.{greatest_of_two}
 use Rattle.cards.specs.Deals.{IsPartition}
 use Rattle.cards.specs.Hands.{hand_of, holds_card, length_of}
 use Rattle.cards.specs.Pack.{seat_number}
@@ -87,28 +86,3 @@ lengths_add deal q ok =
           (λ c. by_suit (c / 13) (holds_card hand c) (no_card hand c (long deal q ok))) pack,
       thirteen deal q ok,
     )
-
--- four numbers that add up to thirteen
-pub longest_least : (a b c d : ℕ) → a + b + c + d ≡ 13 → 4 ≤ max (max a b) (max c d)
-longest_least a b c d all = omega (arith, all)
-
-pub longest_most : (a b c d : ℕ) → a ≤ 13 → b ≤ 13 → c ≤ 13 → d ≤ 13 → max (max a b) (max c d) ≤ 13
-longest_most a b c d w x y z = omega (arith, w, x, y, z)
-
--- of two of them the shorter is at most six
-two_most : (a b : ℕ) → a + b ≤ 13 → min a b ≤ 6
-two_most a b all = omega (arith, all)
-
-most_of_two : (a b n : ℕ) → a ≤ n → b ≤ n → max a b ≤ n
-most_of_two a b n h i = omega (arith, h, i)
-
-pub second_most : (a b c d : ℕ) → a + b + c + d ≡ 13 → greatest_of_two a b c d ≤ 6
-second_most a b c d all =
-    most_of_two (max (min a b) (min c d)) (max (max (min a c) (min a d)) (max (min b c) (min b d))) 6
-    (most_of_two (min a b) (min c d) 6 (two_most a b (omega (arith, all))) (two_most c d (omega (arith, all))))
-    (most_of_two (max (min a c) (min a d)) (max (min b c) (min b d)) 6
-    (most_of_two (min a c) (min a d) 6 (two_most a c (omega (arith, all))) (two_most a d (omega (arith, all))))
-    (most_of_two (min b c) (min b d) 6 (two_most b c (omega (arith, all))) (two_most b d (omega (arith, all)))))
-
-pub shortest_most : (a b c d : ℕ) → a + b + c + d ≡ 13 → min (min a b) (min c d) ≤ 3
-shortest_most a b c d all = omega (arith, all)

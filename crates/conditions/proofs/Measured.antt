@@ -6,17 +6,18 @@ use Rattle.std.proofs.lemmas.List.FromFn.{length-range_with_len}
 use Rattle.std.proofs.lemmas.List.Sums.{count_by-le-length, sum_by-cons}
 use Rattle.cards.specs.declared.honours.Honours.{Honours}
 use Rattle.cards.specs.declared.hand.Measure.{Measure}
+use Rattle.cards.specs.declared.hand.Measure.TheVariants.{Hcp, Controls, Losers}
 use Rattle.cards.specs.declared.seat.Seat.{Seat}
 use Rattle.cards.specs.declared.suit.Suit.{Suit}
 use Rattle.cards.specs.declared.suit.Suit.TheVariants.{Spades, Hearts, Diamonds, Clubs}
 use Rattle.cards.specs.Deals.{IsPartition}
 use Rattle.cards.specs.Hands.{hand_of, holds_card, holds_in, length_of, weight_in, weight_of}
-use Rattle.cards.specs.Counts.{has_honour, honours_in, honours_of, losers_in, losers_of, total_in, total_of}
+use Rattle.cards.specs.Counts.{counted_in, counted_of, has_honour, honours_in, honours_of, losers_in, total_in, total_of}
 use Rattle.cards.specs.Measures.{four_weights, weights_of}
 use Rattle.cards.specs.Pack.{is_in_suit, rank_of, suit_number}
 use Rattle.cards.specs.Shuffle.{pack}
 use Rattle.cards.proofs.MaskCounts.{both-le, cond-le, sum_by-le}
-use Rattle.conditions.specs.Bounds.{least_weight, most_in, most_of, rank_count}
+use Rattle.conditions.specs.Bounds.{least_weight, most_counted, most_in, most_of, rank_count}
 use Rattle.conditions.proofs.HandBounds.{both, thirteen}
 
 -- ---- weights
@@ -93,9 +94,9 @@ suit_weight_most (a ∷ k ∷ []) hand suit four = absurd (omega (arith, four))
 suit_weight_most (a ∷ k ∷ u ∷ []) hand suit four = absurd (omega (arith, four))
 suit_weight_most (a ∷ k ∷ u ∷ j ∷ x ∷ xs) hand suit four = absurd (omega (arith, four))
 
--- ---- losers
+-- ---- more than ranks
 
-pub suit_losers_most : (hand : List Bool) (suit : Suit) → losers_in hand suit ≤ 3
+suit_losers_most : (hand : List Bool) (suit : Suit) → losers_in hand suit ≤ 3
 suit_losers_most hand suit =
     let n : ℕ = min (length_of hand suit) 3 in
     omega (
@@ -104,33 +105,38 @@ suit_losers_most hand suit =
       length-range_with_len 0 n,
     )
 
-pub losers_most : (hand : List Bool) → losers_of hand ≤ 12
-losers_most hand = omega (
+pub counted_most_in : (m : Measure) (hand : List Bool) (suit : Suit) → counted_in m hand suit ≤ most_counted m
+counted_most_in Losers hand suit = suit_losers_most hand suit
+counted_most_in Hcp hand suit = omega arith
+counted_most_in Controls hand suit = omega arith
+
+pub counted_most : (m : Measure) (hand : List Bool) → counted_of m hand ≤ 4 * most_counted m
+counted_most m hand = omega (
   arith,
-  suit_losers_most hand Spades,
-  suit_losers_most hand Hearts,
-  suit_losers_most hand Diamonds,
-  suit_losers_most hand Clubs,
+  counted_most_in m hand Spades,
+  counted_most_in m hand Hearts,
+  counted_most_in m hand Diamonds,
+  counted_most_in m hand Clubs,
 )
 
 -- ---- measures
 
-by_weights : (o : Option (List ℕ)) (deal : List Seat) (q : Seat) → IsPartition deal → IfSome o (λ w. length w ≡ 4)
-    → unwrap_or (option_map (λ w. weight_of w (hand_of deal q)) o) (losers_of (hand_of deal q))
-    ≤ unwrap_or (option_map (λ w. 4 * sum w - 3 * least_weight w) o) 12
-by_weights (Some w) deal q ok four = weight_most w deal q ok four
-by_weights None deal q ok four = losers_most (hand_of deal q)
+by_weights : (m : Measure) (o : Option (List ℕ)) (deal : List Seat) (q : Seat) → IsPartition deal → IfSome o (λ w. length w ≡ 4)
+    → unwrap_or (option_map (λ w. weight_of w (hand_of deal q)) o) (counted_of m (hand_of deal q))
+    ≤ unwrap_or (option_map (λ w. 4 * sum w - 3 * least_weight w) o) (4 * most_counted m)
+by_weights m (Some w) deal q ok four = weight_most w deal q ok four
+by_weights m None deal q ok four = counted_most m (hand_of deal q)
 
 pub measure_most : (m : Measure) (deal : List Seat) (q : Seat) → IsPartition deal → total_of m (hand_of deal q) ≤ most_of m
-measure_most m deal q ok = by_weights (weights_of m) deal q ok (four_weights m)
+measure_most m deal q ok = by_weights m (weights_of m) deal q ok (four_weights m)
 
-in_suit_by_weights : (o : Option (List ℕ)) (hand : List Bool) (suit : Suit) → IfSome o (λ w. length w ≡ 4)
-    → unwrap_or (option_map (λ w. weight_in w hand suit) o) (losers_in hand suit) ≤ unwrap_or (option_map sum o) 3
-in_suit_by_weights (Some w) hand suit four = suit_weight_most w hand suit four
-in_suit_by_weights None hand suit four = suit_losers_most hand suit
+in_suit_by_weights : (m : Measure) (o : Option (List ℕ)) (hand : List Bool) (suit : Suit) → IfSome o (λ w. length w ≡ 4)
+    → unwrap_or (option_map (λ w. weight_in w hand suit) o) (counted_in m hand suit) ≤ unwrap_or (option_map sum o) (most_counted m)
+in_suit_by_weights m (Some w) hand suit four = suit_weight_most w hand suit four
+in_suit_by_weights m None hand suit four = counted_most_in m hand suit
 
 pub suit_measure_most : (m : Measure) (hand : List Bool) (suit : Suit) → total_in m hand suit ≤ most_in m
-suit_measure_most m hand suit = in_suit_by_weights (weights_of m) hand suit (four_weights m)
+suit_measure_most m hand suit = in_suit_by_weights m (weights_of m) hand suit (four_weights m)
 
 -- ---- ranks
 

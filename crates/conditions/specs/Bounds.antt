@@ -4,7 +4,9 @@ use Rattle.std.specs.Prelude.{ℕ, ◌+◌, ◌-◌, ◌*◌, List, cond, min, o
 use Rattle.std.specs.Prelude.{sum, unwrap_or}
 use Rattle.cards.specs.declared.honours.Honours.{Honours}
 use Rattle.cards.specs.declared.hand.Measure.{Measure}
+use Rattle.cards.specs.declared.hand.Measure.TheVariants.{Losers}
 use Rattle.cards.specs.Measures.{weights_of}
+use Rattle.cards.specs.Orders.{greatest_ordered, least_ordered}
 use Rattle.conditions.specs.declared.tree.Count.{Count}
 use Rattle.conditions.specs.declared.tree.Count.TheVariants as counts
 use Rattle.conditions.specs.Form.{Amount, counted, number, times, sum as plus}
@@ -20,16 +22,23 @@ least_weight w =
     min (min (slice_index_or w 0 0) (slice_index_or w 1 0))
     (min (slice_index_or w 2 0) (slice_index_or w 3 0))
 
+-- the most that the cards of one suit count by a measure that counts more than ranks
+abbrev pub most_counted : Measure → ℕ
+most_counted Losers = 3
+most_counted m = 0
+
 -- the most that a hand counts by a measure: of the sixteen honours it lacks three
 abbrev pub most_of : Measure → ℕ
-most_of m = unwrap_or (option_map (λ w. 4 * sum w - 3 * least_weight w) (weights_of m)) 12
+most_of m =
+    unwrap_or
+    (option_map (λ w. 4 * sum w - 3 * least_weight w) (weights_of m)) (4 * most_counted m)
 
 -- and the most that its cards of one suit count
 abbrev pub most_in : Measure → ℕ
-most_in m = unwrap_or (option_map sum (weights_of m)) 3
+most_in m = unwrap_or (option_map sum (weights_of m)) (most_counted m)
 
 abbrev pub least_count : Count → ℕ
-least_count (counts.Longest q) = 4
+least_count (counts.Ordered o q) = least_ordered o
 least_count _ = 0
 
 abbrev pub greatest_count : Count → ℕ
@@ -38,9 +47,7 @@ greatest_count (counts.SuitTotal m q s) = most_in m
 greatest_count (counts.Cards q h) = min (4 * rank_count h) 13
 greatest_count (counts.SuitCards q s h) = rank_count h
 greatest_count (counts.Length q s) = 13
-greatest_count (counts.Longest q) = 13
-greatest_count (counts.Second q) = 6
-greatest_count (counts.Shortest q) = 3
+greatest_count (counts.Ordered o q) = greatest_ordered o
 
 abbrev pub least_of : Amount → ℕ
 least_of (plus a b) = least_of a + least_of b

@@ -5,6 +5,7 @@ use Rattle.std.specs.List.{list_any}
 use Rattle.cards.specs.declared.honours.Honours.{Honours}
 use Rattle.cards.specs.declared.hand.Measure.{Measure}
 use Rattle.cards.specs.declared.hand.Measure.TheVariants.{Hcp}
+use Rattle.cards.specs.declared.order.Order.{Order}
 use Rattle.cards.specs.declared.seat.Seat.{Seat}
 use Rattle.cards.specs.declared.suit.Suit.{Suit}
 use Rattle.conditions.specs.declared.tree.Op.{Op}
@@ -40,14 +41,8 @@ suit_cards_held q s h = counts.SuitCards q s h
 abbrev pub suit_length : Seat → Suit → Count
 suit_length q s = counts.Length q s
 
-abbrev pub longest : Seat → Count
-longest q = counts.Longest q
-
-abbrev pub second : Seat → Count
-second q = counts.Second q
-
-abbrev pub shortest : Seat → Count
-shortest q = counts.Shortest q
+abbrev pub length_by : Order → Seat → Count
+length_by o q = counts.Ordered o q
 
 -- a value: a sum, a number, what is counted, or that many times what is counted
 pub data Amount : Type 0 where

@@ -3,7 +3,7 @@ use Rattle.std.specs.Prelude.{ℕ, ◌+◌, ◌*◌, Bool, true, false, not, ◌
 use Rattle.std.specs.List.{list_any}
 use Rattle.cards.specs.declared.seat.Seat.{Seat}
 use Rattle.cards.specs.Hands.{hand_of, length_of, shape_of, is_balanced, is_same, is_rearrangement, orders_of}
-use Rattle.cards.specs.Counts.{total_of, total_in, honours_of, honours_in, longest_of, second_of, shortest_of, stops_in}
+use Rattle.cards.specs.Counts.{total_of, total_in, honours_of, honours_in, ordered_of, stops_in}
 use Rattle.conditions.specs.declared.tree.Count.{Count}
 use Rattle.conditions.specs.declared.tree.Count.TheVariants as counts
 use Rattle.conditions.specs.declared.tree.Item.{Item}
@@ -20,9 +20,7 @@ count_in deal (counts.SuitTotal m q s) = total_in m (hand_of deal q) s
 count_in deal (counts.Cards q h) = honours_of h (hand_of deal q)
 count_in deal (counts.SuitCards q s h) = honours_in h (hand_of deal q) s
 count_in deal (counts.Length q s) = length_of (hand_of deal q) s
-count_in deal (counts.Longest q) = longest_of (hand_of deal q)
-count_in deal (counts.Second q) = second_of (hand_of deal q)
-count_in deal (counts.Shortest q) = shortest_of (hand_of deal q)
+count_in deal (counts.Ordered o q) = ordered_of o (hand_of deal q)
 
 -- the number that a value is
 abbrev pub value_in : List Seat → Amount → ℕ

@@ -3,7 +3,7 @@
 ghost use Rattle.std.specs.Prelude.{◌≡◌, ◌*◌, ◌≤◌, sum};
 ghost use Rattle.conditions.specs.declared.limits.TheConstants.{MOST_PARTS};
 ghost use Rattle.conditions.specs.Bounds.{greatest_count, greatest_of, least_count, least_of};
-ghost use Rattle.conditions.specs.Bounds.{least_weight, most_in, most_of, rank_count};
+ghost use Rattle.conditions.specs.Bounds.{least_weight, most_counted, most_in, most_of, rank_count};
 ghost use Rattle.conditions.specs.Form.{amount_of};
 ghost use Rattle.conditions.specs.Limits.{atoms_of};
 
@@ -47,7 +47,7 @@ impl Count {
         ensures few { result ≤ 4 }
     {
         match self {
-            Count::Longest(_) => 4,
+            Count::Ordered(order, _) => order.least(),
             _ => 0,
         }
     }
@@ -62,9 +62,8 @@ impl Count {
             Count::SuitTotal(measure, _, _) => most_in(measure),
             Count::Cards(_, ranks) => (4 * rank_count(ranks)).min(13),
             Count::SuitCards(_, _, ranks) => rank_count(ranks),
-            Count::Length(..) | Count::Longest(_) => 13,
-            Count::Second(_) => 6,
-            Count::Shortest(_) => 3,
+            Count::Length(..) => 13,
+            Count::Ordered(order, _) => order.greatest(),
         }
     }
 }
@@ -85,7 +84,7 @@ fn most_of(measure: Measure) -> u32
 {
     match measure.weights() {
         Some(weights) => 4 * total_weight(weights) - 3 * least_weight(weights),
-        None => 12,
+        None => 4 * most_counted(measure),
     }
 }
 
@@ -96,7 +95,18 @@ fn most_in(measure: Measure) -> u32
 {
     match measure.weights() {
         Some(weights) => total_weight(weights),
-        None => 3,
+        None => most_counted(measure),
+    }
+}
+
+/// The most that the cards of one suit count by a measure that counts more than ranks.
+fn most_counted(measure: Measure) -> u32
+    ensures value { result ≡ most_counted measure }
+    ensures few { result ≤ 10 }
+{
+    match measure {
+        Measure::Losers => 3,
+        _ => 0,
     }
 }
 

@@ -5,11 +5,14 @@ use Rattle.std.proofs.Common.{sym, ap, ◌∙◌}
 use base.Stored.{Gv, gnil, gnum, gcons, Coded}
 use Rattle.cards.specs.declared.hand.Measure.{Measure}
 use Rattle.cards.specs.declared.honours.Honours.{Honours}
+use Rattle.cards.specs.declared.order.Order.{Order}
+use Rattle.cards.specs.declared.order.Order.TheVariants.{Longest}
 use Rattle.cards.specs.declared.seat.Seat.{Seat}
 use Rattle.cards.specs.declared.seat.Seat.TheVariants.{North, East, South, West}
 use Rattle.cards.specs.declared.suit.Suit.{Suit}
 use Rattle.cards.specs.declared.suit.Suit.TheVariants.{Spades, Hearts, Diamonds, Clubs}
 use Rattle.cards.specs.Measures.{measure_number, measure_of_number, measure_back}
+use Rattle.cards.specs.Orders.{order_number, order_of_number, order_back}
 use Rattle.cards.specs.Pack.{seat_number, seat_of_number, suit_number}
 use Rattle.conditions.specs.declared.tree.Item.{Item}
 use Rattle.conditions.specs.declared.tree.Item.TheVariants.{Length, Any}
@@ -99,6 +102,12 @@ measure_stored m = gnum (measure_number m)
 abbrev measure_from : Gv → Measure
 measure_from v = measure_of_number (number_of v)
 
+abbrev order_stored : Order → Gv
+order_stored o = gnum (order_number o)
+
+abbrev order_from : Gv → Order
+order_from v = order_of_number (number_of v)
+
 abbrev item_number : Item → ℕ
 item_number Any = 0
 item_number (Length n) = suc n
@@ -175,9 +184,7 @@ count_stored (counts.Length q s) = gcons (gnum 2) (gcons (seat_stored q) (suit_s
 count_stored (counts.Cards q h) = gcons (gnum 3) (gcons (seat_stored q) (honours_stored h))
 count_stored (counts.SuitCards q s h) =
     gcons (gnum 4) (gcons (seat_stored q) (gcons (suit_stored s) (honours_stored h)))
-count_stored (counts.Longest q) = gcons (gnum 5) (seat_stored q)
-count_stored (counts.Shortest q) = gcons (gnum 6) (seat_stored q)
-count_stored (counts.Second q) = gcons (gnum 7) (seat_stored q)
+count_stored (counts.Ordered o q) = gcons (gnum 5) (gcons (order_stored o) (seat_stored q))
 
 abbrev count_from : Gv → Count
 count_from (gcons (gnum zero) (gcons m q)) = counts.Total (measure_from m) (seat_from q)
@@ -188,11 +195,9 @@ count_from (gcons (gnum (suc (suc (suc zero)))) (gcons q h)) =
     counts.Cards (seat_from q) (honours_from h)
 count_from (gcons (gnum (suc (suc (suc (suc zero))))) (gcons q (gcons s h))) =
     counts.SuitCards (seat_from q) (suit_from s) (honours_from h)
-count_from (gcons (gnum (suc (suc (suc (suc (suc zero)))))) q) = counts.Longest (seat_from q)
-count_from (gcons (gnum (suc (suc (suc (suc (suc (suc zero))))))) q) = counts.Shortest (seat_from q)
-count_from (gcons (gnum (suc (suc (suc (suc (suc (suc (suc k)))))))) q) =
-    counts.Second (seat_from q)
-count_from _ = counts.Longest North
+count_from (gcons (gnum (suc (suc (suc (suc (suc k)))))) (gcons o q)) =
+    counts.Ordered (order_from o) (seat_from q)
+count_from _ = counts.Ordered Longest North
 
 count_back : (c : Count) → count_from (count_stored c) ≡ c
 count_back (counts.Length q s) = rw (seat_back q, suit_back s) refl
@@ -207,9 +212,7 @@ count_back (counts.SuitCards q s h) =
     (seat_back q)
     ∙ ap (λ u. counts.SuitCards q u (honours_from (honours_stored h))) (suit_back s)
     ∙ ap (counts.SuitCards q s) (honours_back h)
-count_back (counts.Longest q) = ap counts.Longest (seat_back q)
-count_back (counts.Shortest q) = ap counts.Shortest (seat_back q)
-count_back (counts.Second q) = ap counts.Second (seat_back q)
+count_back (counts.Ordered o q) = rw (order_back o, seat_back q) refl
 
 -- and so each kind of value
 abbrev amount_stored : Amount → Gv
