@@ -6,7 +6,7 @@ use Rattle.std.proofs.lemmas.List.FromFn.{length-range_with_len}
 use Rattle.std.proofs.lemmas.List.Sums.{count_by-le-length, sum_by-cons}
 use Rattle.cards.specs.declared.honours.Honours.{Honours}
 use Rattle.cards.specs.declared.hand.Measure.{Measure}
-use Rattle.cards.specs.declared.hand.Measure.TheVariants.{Hcp, Controls, Losers}
+use Rattle.cards.specs.declared.hand.Measure.TheVariants.{Losers}
 use Rattle.cards.specs.declared.seat.Seat.{Seat}
 use Rattle.cards.specs.declared.suit.Suit.{Suit}
 use Rattle.cards.specs.declared.suit.Suit.TheVariants.{Spades, Hearts, Diamonds, Clubs}
@@ -107,8 +107,7 @@ suit_losers_most hand suit =
 
 pub counted_most_in : (m : Measure) (hand : List Bool) (suit : Suit) → counted_in m hand suit ≤ most_counted m
 counted_most_in Losers hand suit = suit_losers_most hand suit
-counted_most_in Hcp hand suit = omega arith
-counted_most_in Controls hand suit = omega arith
+counted_most_in m hand suit = omega arith
 
 pub counted_most : (m : Measure) (hand : List Bool) → counted_of m hand ≤ 4 * most_counted m
 counted_most m hand = omega (

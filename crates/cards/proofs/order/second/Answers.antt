@@ -1,4 +1,3 @@
-use Rattle.std.proofs.Common.{◌∙◌}
 use Rattle.cards.proofs.OrderedLengths.{second_by_pairs}
 use Rattle.cards.proofs.order.second.Goals as goal
 
