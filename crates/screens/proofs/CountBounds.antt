@@ -10,10 +10,11 @@ use Rattle.cards.specs.declared.suit.Suit.{Suit}
 use Rattle.cards.specs.declared.suit.Suit.TheVariants.{Spades, Hearts, Diamonds, Clubs}
 use Rattle.std.proofs.lemmas.List.{get_or_past}
 use Rattle.std.proofs.lemmas.List.Sums.{sum_by-cons}
-use Rattle.cards.specs.Counts.{greatest_of_two, losers_in, losers_of, total_of}
+use Rattle.cards.specs.Counts.{counted_in, counted_of, total_of}
 use Rattle.cards.specs.Deals.{IsPartition}
 use Rattle.cards.specs.Hands.{hand_of, holds_card, weight_in, weight_of}
 use Rattle.cards.specs.Measures.{weights_of}
+use Rattle.cards.proofs.OrderedLengths.{ordered_le}
 use Rattle.cards.specs.Pack.{rank_of}
 use Rattle.cards.specs.Shuffle.{pack}
 use Rattle.conditions.specs.declared.tree.Count.{Count}
@@ -120,45 +121,22 @@ weights_add w deal q ok =
           (λ c. by_suit (c / 13) (holds_card hand c) (get_or w (rank_of c) 0) (no_card hand c (long deal q ok))) pack,
     )
 
-abbrev measured_in : Option (List ℕ) → List Bool → Suit → ℕ
-measured_in o hand s = unwrap_or (option_map (λ w. weight_in w hand s) o) (losers_in hand s)
+abbrev measured_in : Measure → Option (List ℕ) → List Bool → Suit → ℕ
+measured_in m o hand s = unwrap_or (option_map (λ w. weight_in w hand s) o) (counted_in m hand s)
 
-measures_add : (o : Option (List ℕ)) (deal : List Seat) (q : Seat) → IsPartition deal
-    → measured_in o (hand_of deal q) Spades + measured_in o (hand_of deal q) Hearts + measured_in o (hand_of deal q)
-    Diamonds + measured_in o (hand_of deal q) Clubs
-    ≡ unwrap_or (option_map (λ w. weight_of w (hand_of deal q)) o) (losers_of (hand_of deal q))
-measures_add (Some w) deal q ok = weights_add w deal q ok
-measures_add None deal q ok = refl
+measures_add : (m : Measure) (o : Option (List ℕ)) (deal : List Seat) (q : Seat) → IsPartition deal
+    → measured_in m o (hand_of deal q) Spades + measured_in m o (hand_of deal q) Hearts + measured_in m o (hand_of deal q)
+    Diamonds + measured_in m o (hand_of deal q) Clubs
+    ≡ unwrap_or (option_map (λ w. weight_of w (hand_of deal q)) o) (counted_of m (hand_of deal q))
+measures_add m (Some w) deal q ok = weights_add w deal q ok
+measures_add m None deal q ok = refl
 
 -- what a hand counts is what its suits do
 pub suits_add : (deal : List Seat) (m : Measure) (q : Seat) → IsPartition deal
     → count_in deal (counts.SuitTotal m q Spades) + count_in deal (counts.SuitTotal m q Hearts) + count_in deal (counts.SuitTotal m q Diamonds)
     + count_in deal (counts.SuitTotal m q Clubs)
     ≡ total_of m (hand_of deal q)
-suits_add deal m q ok = measures_add (weights_of m) deal q ok
-
--- ---- of four numbers
-
-min_le : (a b x y : ℕ) → a ≤ x → b ≤ y → min a b ≤ min x y
-min_le a b x y h i = omega (arith, h, i)
-
-max_le : (a b x y : ℕ) → a ≤ x → b ≤ y → max a b ≤ max x y
-max_le a b x y h i = omega (arith, h, i)
-
-longest_le : (s h d c s' h' d' c' : ℕ) → s ≤ s' → h ≤ h' → d ≤ d' → c ≤ c' → max (max s h) (max d c) ≤ max (max s' h') (max d' c')
-longest_le s h d c s' h' d' c' i j k l = max_le (max s h) (max d c) (max s' h') (max d' c') (max_le s h s' h' i j) (max_le d c d' c' k l)
-
-shortest_le : (s h d c s' h' d' c' : ℕ) → s ≤ s' → h ≤ h' → d ≤ d' → c ≤ c' → min (min s h) (min d c) ≤ min (min s' h') (min d' c')
-shortest_le s h d c s' h' d' c' i j k l = min_le (min s h) (min d c) (min s' h') (min d' c') (min_le s h s' h' i j) (min_le d c d' c' k l)
-
-second_le : (s h d c s' h' d' c' : ℕ) → s ≤ s' → h ≤ h' → d ≤ d' → c ≤ c' → greatest_of_two s h d c ≤ greatest_of_two s' h' d' c'
-second_le s h d c s' h' d' c' i j k l =
-    max_le (max (min s h) (min d c)) (max (max (min s d) (min s c)) (max (min h d) (min h c)))
-    (max (min s' h') (min d' c')) (max (max (min s' d') (min s' c')) (max (min h' d') (min h' c')))
-    (max_le (min s h) (min d c) (min s' h') (min d' c') (min_le s h s' h' i j) (min_le d c d' c' k l))
-    (max_le (max (min s d) (min s c)) (max (min h d) (min h c)) (max (min s' d') (min s' c')) (max (min h' d') (min h' c'))
-    (max_le (min s d) (min s c) (min s' d') (min s' c') (min_le s d s' d' i k) (min_le s c s' c' i l))
-    (max_le (min h d) (min h c) (min h' d') (min h' c') (min_le h d h' d' j k) (min_le h c h' c' j l)))
+suits_add deal m q ok = measures_add m (weights_of m) deal q ok
 
 -- ---- what the suits make
 
@@ -196,14 +174,8 @@ module _ (deal : List Seat) (k : Facts) (ok : IsPartition deal) (are : AreTrueOf
       )
 
   low_made : (c : Count) → least_made k c ≤ count_in deal c
-  low_made (counts.Longest q) =
-      longest_le _ _ _ _ _ _ _ _ (low (counts.Length q Spades)) (low (counts.Length q Hearts))
-      (low (counts.Length q Diamonds)) (low (counts.Length q Clubs))
-  low_made (counts.Second q) =
-      second_le _ _ _ _ _ _ _ _ (low (counts.Length q Spades)) (low (counts.Length q Hearts))
-      (low (counts.Length q Diamonds)) (low (counts.Length q Clubs))
-  low_made (counts.Shortest q) =
-      shortest_le _ _ _ _ _ _ _ _ (low (counts.Length q Spades)) (low (counts.Length q Hearts))
+  low_made (counts.Ordered o q) =
+      ordered_le o _ _ _ _ _ _ _ _ (low (counts.Length q Spades)) (low (counts.Length q Hearts))
       (low (counts.Length q Diamonds)) (low (counts.Length q Clubs))
   low_made (counts.Total m q) = low_total m q
   low_made (counts.SuitTotal m q s) = omega arith
@@ -212,14 +184,8 @@ module _ (deal : List Seat) (k : Facts) (ok : IsPartition deal) (are : AreTrueOf
   low_made (counts.Length q s) = omega arith
 
   high_made : (c : Count) → count_in deal c ≤ greatest_made k c
-  high_made (counts.Longest q) =
-      longest_le _ _ _ _ _ _ _ _ (high (counts.Length q Spades)) (high (counts.Length q Hearts))
-      (high (counts.Length q Diamonds)) (high (counts.Length q Clubs))
-  high_made (counts.Second q) =
-      second_le _ _ _ _ _ _ _ _ (high (counts.Length q Spades)) (high (counts.Length q Hearts))
-      (high (counts.Length q Diamonds)) (high (counts.Length q Clubs))
-  high_made (counts.Shortest q) =
-      shortest_le _ _ _ _ _ _ _ _ (high (counts.Length q Spades)) (high (counts.Length q Hearts))
+  high_made (counts.Ordered o q) =
+      ordered_le o _ _ _ _ _ _ _ _ (high (counts.Length q Spades)) (high (counts.Length q Hearts))
       (high (counts.Length q Diamonds)) (high (counts.Length q Clubs))
   high_made (counts.Total m q) = high_total m q
   high_made (counts.SuitTotal m q s) = count_at_most deal ok (counts.SuitTotal m q s)

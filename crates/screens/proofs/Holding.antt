@@ -25,41 +25,9 @@ use Rattle.screens.specs.internal.Shares.{card_weight, is_at}
 use Rattle.screens.proofs.CardByCard.{counted_least, counted_most, holder, in_pack, read_hand, same_in}
 use Rattle.conditions.proofs.HandBounds.{both, thirteen}
 use Rattle.screens.specs.Facts.{IsTrueOf}
-use Rattle.screens.specs.Held.{card_share, counts_for, fact_on, had, heaviest, heaviest_of, rank_weight, whose}
+use Rattle.screens.specs.Held.{card_share, fact_on, had, heaviest, heaviest_of}
+use Rattle.screens.specs.SingleCards.{counts_for, rank_weight, whose}
 use Rattle.screens.specs.Never.{Keeps}
-
--- ---- a card at a seat
-
-and_cond : (b c : Bool) (n : ℕ) → cond {A = ℕ} (b && c) n 0 ≡ cond c (cond b n 0) 0
-and_cond true true n = refl
-and_cond true false n = refl
-and_cond false true n = refl
-and_cond false false n = refl
-
-zero_cond : (c : Bool) → cond {A = ℕ} c 0 0 ≡ 0
-zero_cond true = refl
-zero_cond false = refl
-
-and_again : (a b c : Bool) → cond {A = ℕ} (a && (b && c)) 1 0 ≡ cond c (cond b (cond a 1 0) 0) 0
-and_again true true true = refl
-and_again true true false = refl
-and_again true false true = refl
-and_again true false false = refl
-and_again false true true = refl
-and_again false true false = refl
-and_again false false true = refl
-and_again false false false = refl
-
--- the card counts at the seat whose hand is counted, and at no other
-pub weight_at_seat : (k : Count) (c : ℕ) (q : Seat) → card_weight k c q ≡ cond (is_at (whose k) q) (counts_for k c) 0
-weight_at_seat (counts.Total m p) c q = refl
-weight_at_seat (counts.SuitTotal m p s) c q = and_cond (is_in_suit s c) (is_at p q) _
-weight_at_seat (counts.Cards p h) c q = and_cond (has_honour h (rank_of c)) (is_at p q) 1
-weight_at_seat (counts.SuitCards p s h) c q = and_again (has_honour h (rank_of c)) (is_in_suit s c) (is_at p q)
-weight_at_seat (counts.Length p s) c q = and_cond (is_in_suit s c) (is_at p q) 1
-weight_at_seat (counts.Longest p) c q = sym (zero_cond (is_at p q))
-weight_at_seat (counts.Second p) c q = sym (zero_cond (is_at p q))
-weight_at_seat (counts.Shortest p) c q = sym (zero_cond (is_at p q))
 
 -- ---- sums
 
@@ -84,13 +52,13 @@ share_low : (k : Count) (c : ℕ) (o : Option Seat) (q : Seat) → ((p : Seat) �
 share_low k c None q stays = omega arith
 share_low k c (Some p) q stays =
     let e : q ≡ p = stays p refl in
-    omega (arith, weight_at_seat k c q, ap (λ r. cond (is_at (whose k) r) (counts_for k c) 0) e)
+    omega (arith, ap (λ r. cond (is_at (whose k) r) (counts_for k c) 0) e)
 
 share_high : (k : Count) (c : ℕ) (o : Option Seat) (q : Seat) → ((p : Seat) → o ≡ Some p → q ≡ p) → card_weight k c q ≤ card_share k c o true
-share_high k c None q stays = omega (arith, weight_at_seat k c q, cond_le (is_at (whose k) q) (counts_for k c))
+share_high k c None q stays = cond_le (is_at (whose k) q) (counts_for k c)
 share_high k c (Some p) q stays =
     let e : q ≡ p = stays p refl in
-    omega (arith, weight_at_seat k c q, ap (λ r. cond (is_at (whose k) r) (counts_for k c) 0) e)
+    omega (arith, ap (λ r. cond (is_at (whose k) r) (counts_for k c) 0) e)
 
 -- the holder of a fixed card
 stays_at : (fixed : List (Option Seat)) (deal : List Seat) (c : ℕ) → IsFixed fixed → Keeps fixed deal → c < 52
@@ -126,9 +94,7 @@ card_heaviest (counts.Cards q h) c = cond_le (has_honour h (rank_of c)) 1
 card_heaviest (counts.SuitCards q s h) c =
     omega (arith, cond_le (is_in_suit s c) (cond (has_honour h (rank_of c)) 1 0), cond_le (has_honour h (rank_of c)) 1)
 card_heaviest (counts.Length q s) c = cond_le (is_in_suit s c) 1
-card_heaviest (counts.Longest q) c = omega arith
-card_heaviest (counts.Second q) c = omega arith
-card_heaviest (counts.Shortest q) c = omega arith
+card_heaviest (counts.Ordered o q) c = omega arith
 
 -- a card that a seat has is fixed there, or counts at most as much as the heaviest
 one_by_room : (b : Bool) (w heavy : ℕ) → w ≤ heavy → cond b w 0 + heavy * 0 ≤ 0 + heavy * cond b 1 0
@@ -199,12 +165,6 @@ within_room fixed deal k is keeps =
       mul-add heavy (held fixed q) (room fixed q),
     )
 
-same_weights : (deal : List Seat) (k : Count) → sum_by (λ c. card_weight k c (holder deal c)) pack ≡ sum_by
-    (λ c. cond (is_at (whose k) (holder deal c)) (counts_for k c) 0) pack
-same_weights deal k =
-    same_in (λ c. card_weight k c (holder deal c)) (λ c. cond (is_at (whose k) (holder deal c)) (counts_for k c) 0)
-    (λ c within. weight_at_seat k c (holder deal c)) pack in_pack
-
 pub fact_holds : (fixed : List (Option Seat)) (deal : List Seat) (k : Count) → IsFixed fixed → Keeps fixed deal → IsTrueOf deal (fact_on fixed k)
 unfolding had
 fact_holds fixed deal k is keeps = record {
@@ -219,7 +179,6 @@ fact_holds fixed deal k is keeps = record {
     sum_le (λ c. card_weight k c (holder deal c)) (λ c. card_share k c (get_or fixed c None) true)
         (λ c within. share_high k c (get_or fixed c None) (holder deal c) (stays_at fixed deal c is keeps within)) pack in_pack,
     counted_most deal keeps.partition (counted k),
-    same_weights deal k,
     within_room fixed deal k is keeps,
   );
 }

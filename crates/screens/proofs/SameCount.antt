@@ -7,6 +7,7 @@ use Rattle.cards.specs.declared.suit.Suit.{Suit}
 use Rattle.cards.specs.declared.suit.Suit.TheVariants.{Spades, Hearts, Diamonds, Clubs}
 use Rattle.cards.specs.Hands.{is_same}
 use Rattle.cards.specs.Measures.{measure_back, measure_number, measure_of_number}
+use Rattle.cards.specs.Orders.{order_back, order_number, order_of_number}
 use Rattle.cards.specs.Pack.{seat_number, seat_of_number, suit_number}
 use Rattle.conditions.specs.declared.tree.Count.{Count}
 use Rattle.conditions.specs.declared.tree.Count.TheVariants as counts
@@ -80,11 +81,9 @@ count_by n q s m =
     if n == 1 then counts.Total (measure_of_number m) (seat_of_number q)
     else (if n == 2 then counts.SuitTotal (measure_of_number m) (seat_of_number q) (suit_at s)
     else (if n == 3 then counts.Length (seat_of_number q) (suit_at s)
-    else (if n == 4 then counts.Longest (seat_of_number q)
-    else (if n == 5 then counts.Shortest (seat_of_number q)
-    else (if n == 6 then counts.Cards (seat_of_number q) (honours_by m)
-    else (if n == 7 then counts.SuitCards (seat_of_number q) (suit_at s) (honours_by m)
-    else counts.Second (seat_of_number q)))))))
+    else (if n == 4 then counts.Ordered (order_of_number m) (seat_of_number q)
+    else (if n == 5 then counts.Cards (seat_of_number q) (honours_by m)
+    else counts.SuitCards (seat_of_number q) (suit_at s) (honours_by m)))))
 
 abbrev count_at : List ℕ → Count
 count_at code = count_by (get_or code 0 0) (get_or code 1 0) (get_or code 2 0) (get_or code 3 0)
@@ -98,9 +97,8 @@ count_back (counts.SuitTotal m q s) =
     ∙ ap (λ k. counts.SuitTotal k q s) (measure_back m)
 count_back (counts.Length q s) =
     ap (λ p. counts.Length p (suit_at (suit_number s))) (seat_back q) ∙ ap (λ t. counts.Length q t) (suit_back s)
-count_back (counts.Longest q) = ap (λ p. counts.Longest p) (seat_back q)
-count_back (counts.Shortest q) = ap (λ p. counts.Shortest p) (seat_back q)
-count_back (counts.Second q) = ap (λ p. counts.Second p) (seat_back q)
+count_back (counts.Ordered o q) =
+    ap (λ p. counts.Ordered (order_of_number (order_number o)) p) (seat_back q) ∙ ap (λ k. counts.Ordered k q) (order_back o)
 count_back (counts.Cards q h) =
     ap (λ p. counts.Cards p (honours_by (honours_number h))) (seat_back q) ∙ ap (λ g. counts.Cards q g) (honours_back h)
 count_back (counts.SuitCards q s h) =

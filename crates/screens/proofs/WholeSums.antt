@@ -21,12 +21,11 @@ use Rattle.conditions.specs.Meaning.{count_in}
 use Rattle.conditions.proofs.FewRows.{few_count}
 use Rattle.conditions.proofs.HandBounds.{both, lengths_add}
 use Rattle.conditions.proofs.ValueBounds.{count_at_most}
-use Rattle.screens.specs.internal.Shares.{card_weight, count_beside, is_at}
+use Rattle.screens.specs.internal.Shares.{is_at}
 use Rattle.screens.proofs.CardByCard.{counted_least, counted_most, holder}
-use Rattle.screens.specs.Held.{counts_for, rank_weight, whose}
+use Rattle.screens.specs.SingleCards.{count_beside, counts_for, rank_weight, whose}
 use Rattle.screens.specs.Wholes.{IsWholeOf, hand_measure, hand_shape, pack_measure, pack_ranks, suit_lengths, suit_measure, suit_ranks, total_weight}
 use Rattle.screens.proofs.CountBounds.{suits_add}
-use Rattle.screens.proofs.Holding.{weight_at_seat}
 
 -- ---- each card is at one seat
 
@@ -41,9 +40,7 @@ at_seat deal f q c = cond (is_at q (holder deal c)) (f c) 0
 exact : (deal : List Seat) (k : Count) → IsPartition deal → least_count k ≡ 0 → count_beside k ≡ 0
     → count_in deal k ≡ sum_by (at_seat deal (counts_for k) (whose k)) pack
 exact deal k ok none beside =
-    let same : sum_by (λ c. card_weight k c (holder deal c)) pack ≡ sum_by (at_seat deal (counts_for k) (whose k)) pack =
-    same_sum (λ c. card_weight k c (holder deal c)) (at_seat deal (counts_for k) (whose k)) (λ c. weight_at_seat k c (holder deal c)) pack in
-    omega (arith, same, none, beside, counted_least deal ok (counted k), counted_most deal ok (counted k))
+    omega (arith, none, beside, counted_least deal ok (counted k), counted_most deal ok (counted k))
 
 one_seat : (n : ℕ) (q : Seat) → cond (is_at North q) n 0 + cond (is_at East q) n 0 + cond (is_at South q) n 0 + cond (is_at West q) n 0 ≡ n
 one_seat n North = omega arith

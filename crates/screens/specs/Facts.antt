@@ -7,6 +7,7 @@ use Rattle.cards.specs.declared.seat.Seat.{Seat}
 use Rattle.cards.specs.declared.suit.Suit.TheVariants.{Spades, Hearts, Diamonds, Clubs}
 use Rattle.cards.specs.Hands.{is_same}
 use Rattle.cards.specs.Measures.{measure_number}
+use Rattle.cards.specs.Orders.{order_number}
 use Rattle.cards.specs.Pack.{seat_number, suit_number}
 use Rattle.conditions.specs.declared.tree.Count.{Count}
 use Rattle.conditions.specs.declared.tree.Count.TheVariants as counts
@@ -15,7 +16,7 @@ use Rattle.conditions.specs.Meaning.{count_in}
 use Rattle.screens.specs.declared.unmet.by_suit.BySuit.{BySuit}
 use Rattle.screens.specs.declared.unmet.facts.Fact.{Fact}
 use Rattle.screens.specs.declared.unmet.facts.Facts.{Facts}
-use Rattle.screens.specs.Suits.{longest_in, second_in, shortest_in, total_in}
+use Rattle.screens.specs.Suits.{ordered_in, total_in}
 
 -- ---- facts that hold
 
@@ -35,16 +36,15 @@ abbrev pub honours_number : Honours → ℕ
 honours_number h =
     cond h.ace 16 0 + cond h.king 8 0 + cond h.queen 4 0 + cond h.jack 2 0 + cond h.ten 1 0
 
--- what is counted, by numbers: what, whose, in which suit, and by which measure or of which ranks
+-- what is counted, by numbers: what, whose, in which suit, and by which measure, of which order or of
+-- which ranks
 abbrev pub count_code : Count → List ℕ
 count_code (counts.Total m q) = 1 ∷ seat_number q ∷ 0 ∷ measure_number m ∷ []
 count_code (counts.SuitTotal m q s) = 2 ∷ seat_number q ∷ suit_number s ∷ measure_number m ∷ []
 count_code (counts.Length q s) = 3 ∷ seat_number q ∷ suit_number s ∷ 0 ∷ []
-count_code (counts.Longest q) = 4 ∷ seat_number q ∷ 0 ∷ 0 ∷ []
-count_code (counts.Shortest q) = 5 ∷ seat_number q ∷ 0 ∷ 0 ∷ []
-count_code (counts.Cards q h) = 6 ∷ seat_number q ∷ 0 ∷ honours_number h ∷ []
-count_code (counts.SuitCards q s h) = 7 ∷ seat_number q ∷ suit_number s ∷ honours_number h ∷ []
-count_code (counts.Second q) = 8 ∷ seat_number q ∷ 0 ∷ 0 ∷ []
+count_code (counts.Ordered o q) = 4 ∷ seat_number q ∷ 0 ∷ order_number o ∷ []
+count_code (counts.Cards q h) = 5 ∷ seat_number q ∷ 0 ∷ honours_number h ∷ []
+count_code (counts.SuitCards q s h) = 6 ∷ seat_number q ∷ suit_number s ∷ honours_number h ∷ []
 
 unfoldable pub is_same_count : Count → Count → Bool
 is_same_count a b = is_same (count_code a) (count_code b)
@@ -104,16 +104,12 @@ greatest_totals k m q = record {
 
 -- by the counts of the suits that make it
 abbrev pub least_made : Facts → Count → ℕ
-least_made k (counts.Longest q) = longest_in (least_lengths k q)
-least_made k (counts.Second q) = second_in (least_lengths k q)
-least_made k (counts.Shortest q) = shortest_in (least_lengths k q)
+least_made k (counts.Ordered o q) = ordered_in o (least_lengths k q)
 least_made k (counts.Total m q) = total_in (least_totals k m q)
 least_made k _ = 0
 
 abbrev pub greatest_made : Facts → Count → ℕ
-greatest_made k (counts.Longest q) = longest_in (greatest_lengths k q)
-greatest_made k (counts.Second q) = second_in (greatest_lengths k q)
-greatest_made k (counts.Shortest q) = shortest_in (greatest_lengths k q)
+greatest_made k (counts.Ordered o q) = ordered_in o (greatest_lengths k q)
 greatest_made k (counts.Total m q) = total_in (greatest_totals k m q)
 greatest_made k c = greatest_count c
 

@@ -4,39 +4,14 @@ use Rattle.std.specs.Prelude.{None, Option, Some, option_map, slice_index_or, un
 use Rattle.std.specs.List.{sum_by}
 use Rattle.cards.specs.declared.hand.Measure.{Measure}
 use Rattle.cards.specs.declared.seat.Seat.{Seat}
-use Rattle.cards.specs.Counts.{has_honour}
 use Rattle.cards.specs.Fixed.{room}
 use Rattle.cards.specs.Measures.{weights_of}
-use Rattle.cards.specs.Pack.{is_in_suit, rank_of, seat_number}
+use Rattle.cards.specs.Pack.{seat_number}
 use Rattle.cards.specs.Shuffle.{pack}
 use Rattle.conditions.specs.declared.tree.Count.{Count}
 use Rattle.conditions.specs.declared.tree.Count.TheVariants as counts
 use Rattle.screens.specs.declared.unmet.facts.Fact.{Fact}
-
--- the seat whose hand is counted
-abbrev pub whose : Count → Seat
-whose (counts.Total m q) = q
-whose (counts.SuitTotal m q s) = q
-whose (counts.Cards q h) = q
-whose (counts.SuitCards q s h) = q
-whose (counts.Length q s) = q
-whose (counts.Longest q) = q
-whose (counts.Second q) = q
-whose (counts.Shortest q) = q
-
--- what a card counts by a measure, if that counts ranks
-abbrev pub rank_weight : Measure → ℕ → ℕ
-rank_weight m c = unwrap_or (option_map (λ w. slice_index_or w (rank_of c) 0) (weights_of m)) 0
-
--- what the card counts if the seat has it
-abbrev pub counts_for : Count → ℕ → ℕ
-counts_for (counts.Total m q) c = rank_weight m c
-counts_for (counts.SuitTotal m q s) c = cond (is_in_suit s c) (rank_weight m c) 0
-counts_for (counts.Cards q h) c = cond (has_honour h (rank_of c)) 1 0
-counts_for (counts.SuitCards q s h) c =
-    cond (is_in_suit s c) (cond (has_honour h (rank_of c)) 1 0) 0
-counts_for (counts.Length q s) c = cond (is_in_suit s c) 1 0
-counts_for _ c = 0
+use Rattle.screens.specs.SingleCards.{count_beside, counts_for, whose}
 
 -- whether a card that is fixed so counts: `free` tells it of a card that isn't
 abbrev pub is_had : Count → Option Seat → Bool → Bool
@@ -49,15 +24,6 @@ card_share k c fixed free = cond (is_had k fixed free) (counts_for k c) 0
 -- what the seat's fixed cards count, with the free cards if these count too
 unfoldable pub had : List (Option Seat) → Count → Bool → ℕ
 had fixed k free = sum_by (λ c. card_share k c (slice_index_or fixed c None) free) pack
-
--- the most that is counted beside single cards
-abbrev pub beside : Count → ℕ
-beside (counts.Total m q) = unwrap_or (option_map (λ w. 0) (weights_of m)) 12
-beside (counts.SuitTotal m q s) = unwrap_or (option_map (λ w. 0) (weights_of m)) 3
-beside (counts.Longest q) = 13
-beside (counts.Second q) = 6
-beside (counts.Shortest q) = 3
-beside k = 0
 
 -- the most that a rank counts by a measure, and a card
 abbrev pub heaviest_of : List ℕ → ℕ
@@ -81,5 +47,5 @@ abbrev pub fact_on : List (Option Seat) → Count → Fact
 fact_on fixed k = record {
   count = k;
   least = had fixed k false;
-  most = beside k + min (had fixed k true) (had fixed k false + heaviest k * room fixed (whose k));
+  most = count_beside k + min (had fixed k true) (had fixed k false + heaviest k * room fixed (whose k));
 }

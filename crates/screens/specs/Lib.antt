@@ -4,6 +4,7 @@ pub mod Facts
 pub mod Values
 pub mod Refuted
 pub mod Splits
+pub mod SingleCards
 pub mod Held
 pub mod Wholes
 pub mod Torn

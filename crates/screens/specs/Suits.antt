@@ -1,16 +1,12 @@
 -- A number for each suit of a hand.
-use Rattle.std.specs.Prelude.{ℕ, ◌+◌, ◌≤◌, max, min, List, [], ◌∷◌}
-use Rattle.cards.specs.Counts.{greatest_of_two}
+use Rattle.std.specs.Prelude.{ℕ, ◌+◌, ◌≤◌, List, [], ◌∷◌}
+use Rattle.cards.specs.declared.order.Order.{Order}
+use Rattle.cards.specs.Orders.{ordered}
 use Rattle.screens.specs.declared.unmet.by_suit.BySuit.{BySuit}
 
-abbrev pub longest_in : BySuit → ℕ
-longest_in n = max (max n.spades n.hearts) (max n.diamonds n.clubs)
-
-abbrev pub shortest_in : BySuit → ℕ
-shortest_in n = min (min n.spades n.hearts) (min n.diamonds n.clubs)
-
-abbrev pub second_in : BySuit → ℕ
-second_in n = greatest_of_two n.spades n.hearts n.diamonds n.clubs
+-- the number of an order among the four
+abbrev pub ordered_in : Order → BySuit → ℕ
+ordered_in o n = ordered o n.spades n.hearts n.diamonds n.clubs
 
 abbrev pub total_in : BySuit → ℕ
 total_in n = n.spades + n.hearts + n.diamonds + n.clubs

@@ -13,6 +13,7 @@ pub mod laws;
 mod parts;
 mod screen;
 mod shares;
+mod single_cards;
 mod stage;
 pub mod unmet;
 

@@ -1,18 +1,16 @@
 //! A value card by card: what each card counts in it at each seat, and what the value can be beside
 //! that.
 
-ghost use Rattle.std.specs.Prelude.{◌≡◌, ◌==◌, ◌+◌, ◌*◌, ◌≤◌, ◌<◌, cond};
-ghost use Rattle.cards.specs.Counts.{has_honour};
-ghost use Rattle.cards.specs.Pack.{is_in_suit, rank_of, seat_number};
+ghost use Rattle.std.specs.Prelude.{◌≡◌, ◌*◌, ◌≤◌, cond};
 ghost use Rattle.conditions.specs.declared.limits.TheConstants.{MOST_PARTS};
 ghost use Rattle.conditions.specs.Form.{amount_of, times};
 ghost use Rattle.conditions.specs.Limits.{atoms_of};
-ghost use Rattle.screens.specs.internal.Shares.{beside, card_weight, count_beside, farther};
-ghost use Rattle.screens.specs.internal.Shares.{greatest_beside, is_at, is_light, rank_weight};
-ghost use Rattle.screens.specs.internal.Shares.{open_weight, third_open, weight_at};
+ghost use Rattle.screens.specs.internal.Shares.{beside, card_weight, farther, greatest_beside};
+ghost use Rattle.screens.specs.internal.Shares.{is_light, open_weight, third_open, weight_at};
 
+use crate::single_cards::{count_beside, counts_for, whose};
 use crate::stage::{Bound, Stage};
-use cards::{Honours, Measure, Seat, Suit};
+use cards::Seat;
 use conditions::{Count, Value};
 
 /// What the card counts in the value if the seat has it.
@@ -47,21 +45,10 @@ fn card_weight(count: Count, card: usize, seat: Seat) -> u32
     ensures value { result ≡ card_weight count card seat }
     ensures most { result ≤ 255 }
 {
-    match count {
-        Count::Total(measure, holder) => counted(is_at(holder, seat), rank_weight(measure, card)),
-        Count::SuitTotal(measure, holder, suit) => counted(
-            is_in_suit(suit, card) && is_at(holder, seat),
-            rank_weight(measure, card),
-        ),
-        Count::Cards(holder, ranks) => {
-            counted(has_honour(ranks, card) && is_at(holder, seat), 1)
-        }
-        Count::SuitCards(holder, suit, ranks) => counted(
-            has_honour(ranks, card) && (is_in_suit(suit, card) && is_at(holder, seat)),
-            1,
-        ),
-        Count::Length(holder, suit) => counted(is_in_suit(suit, card) && is_at(holder, seat), 1),
-        Count::Longest(_) | Count::Second(_) | Count::Shortest(_) => 0,
+    if seat == whose(count) {
+        u32::from(counts_for(count, card))
+    } else {
+        0
     }
 }
 
@@ -96,26 +83,11 @@ fn times_beside(factor: u16, count: Count) -> u64
     ensures most { result ≤ 2621400 }
 {
     let whole = if factor <= 15 {
-        count_beside(count)
+        u32::from(count_beside(count))
     } else {
         count.greatest()
     };
     u64::from(factor) * u64::from(whole)
-}
-
-/// The same of a count.
-fn count_beside(count: Count) -> u32
-    ensures value { result ≡ count_beside count }
-    ensures most { result ≤ 13 }
-{
-    match count {
-        Count::Total(measure, _) if measure.weights().is_none() => 12,
-        Count::SuitTotal(measure, _, _) if measure.weights().is_none() => 3,
-        Count::Longest(_) => 13,
-        Count::Second(_) => 6,
-        Count::Shortest(_) => 3,
-        _ => 0,
-    }
 }
 
 /// The least or the greatest that a card of no known hand counts, if it is fixed at this seat, or
@@ -162,51 +134,4 @@ fn third_open(stage: Stage) -> Seat
         Stage::OneHand => Seat::South,
         Stage::TwoHands => Seat::North,
     }
-}
-
-fn is_at(seat: Seat, holder: Seat) -> bool
-    ensures { result ≡ is_at seat holder }
-{
-    holder == seat
-}
-
-fn is_in_suit(suit: Suit, card: usize) -> bool
-    ensures { result ≡ is_in_suit suit card }
-{
-    card / 13 == suit as usize
-}
-
-/// Whether the card's rank is among these.
-fn has_honour(ranks: Honours, card: usize) -> bool
-    ensures { result ≡ has_honour ranks (rank_of card) }
-{
-    match card % 13 {
-        0 => ranks.ace,
-        1 => ranks.king,
-        2 => ranks.queen,
-        3 => ranks.jack,
-        4 => ranks.ten,
-        _ => false,
-    }
-}
-
-/// What the card counts by the measure, if that counts ranks.
-fn rank_weight(measure: Measure, card: usize) -> u32
-    ensures value { result ≡ rank_weight measure card }
-    ensures most { result ≤ 255 }
-{
-    match measure.weights() {
-        Some(weights) => match weights.get(card % 13) {
-            Some(weight) => u32::from(*weight),
-            None => 0,
-        },
-        None => 0,
-    }
-}
-
-/// The weight, or 0 if it doesn't count.
-fn counted(is_counted: bool, weight: u32) -> u32
-    ensures { result ≡ cond is_counted weight 0 }
-{
-    if is_counted { weight } else { 0 }
 }

@@ -1,38 +1,23 @@
 -- A value card by card: what a card counts in it at each seat, and what the value can be beside.
-use Rattle.std.specs.Prelude.{ℕ, ◌+◌, ◌*◌, ◌==◌, ◌&&◌, nat_le, Bool, cond, min, max, Option, Some, None, option_map, slice_index_or, unwrap_or}
-use Rattle.cards.specs.declared.hand.Measure.{Measure}
+use Rattle.std.specs.Prelude.{ℕ, ◌+◌, ◌*◌, ◌==◌, nat_le, Bool, cond, min, max, Option, Some, None}
 use Rattle.cards.specs.declared.seat.Seat.{Seat}
 use Rattle.cards.specs.declared.seat.Seat.TheVariants.{North, East, South}
-use Rattle.cards.specs.Counts.{has_honour}
-use Rattle.cards.specs.Measures.{weights_of}
-use Rattle.cards.specs.Pack.{is_in_suit, rank_of, seat_number}
+use Rattle.cards.specs.Pack.{seat_number}
 use Rattle.screens.specs.declared.stage.Bound.{Bound}
 use Rattle.screens.specs.declared.stage.Bound.TheVariants.{Least, Greatest}
 use Rattle.screens.specs.declared.stage.Stage.{Stage}
 use Rattle.screens.specs.declared.stage.Stage.TheVariants.{OneHand, TwoHands}
 use Rattle.conditions.specs.declared.tree.Count.{Count}
-use Rattle.conditions.specs.declared.tree.Count.TheVariants as counts
 use Rattle.conditions.specs.Bounds.{greatest_count, least_of}
 use Rattle.conditions.specs.Form.{Amount, counted, number, times, sum as plus}
+use Rattle.screens.specs.SingleCards.{count_beside, counts_for, whose}
 
 abbrev pub is_at : Seat → Seat → Bool
 is_at seat holder = seat_number holder == seat_number seat
 
--- what a card counts by a measure, if that counts ranks
-abbrev pub rank_weight : Measure → ℕ → ℕ
-rank_weight m c = unwrap_or (option_map (λ w. slice_index_or w (rank_of c) 0) (weights_of m)) 0
-
 -- what the card counts if the seat `q` has it
 abbrev pub card_weight : Count → ℕ → Seat → ℕ
-card_weight (counts.Total m p) c q = cond (is_at p q) (rank_weight m c) 0
-card_weight (counts.SuitTotal m p s) c q = cond (is_in_suit s c && is_at p q) (rank_weight m c) 0
-card_weight (counts.Cards p h) c q = cond (has_honour h (rank_of c) && is_at p q) 1 0
-card_weight (counts.SuitCards p s h) c q =
-    cond (has_honour h (rank_of c) && (is_in_suit s c && is_at p q)) 1 0
-card_weight (counts.Length p s) c q = cond (is_in_suit s c && is_at p q) 1 0
-card_weight (counts.Longest p) c q = 0
-card_weight (counts.Second p) c q = 0
-card_weight (counts.Shortest p) c q = 0
+card_weight k c q = cond (is_at (whose k) q) (counts_for k c) 0
 
 -- cards that count that many times can be weighed one by one: a greater factor would make them too
 -- heavy, and what it multiplies is taken as a whole
@@ -47,14 +32,6 @@ weight_at (counted k) c q = card_weight k c q
 weight_at (times n k) c q = cond (is_light n) (n * card_weight k c q) 0
 
 -- the greatest of what isn't counted card by card; its least is that of the whole
-abbrev pub count_beside : Count → ℕ
-count_beside (counts.Total m p) = unwrap_or (option_map (λ w. 0) (weights_of m)) 12
-count_beside (counts.SuitTotal m p s) = unwrap_or (option_map (λ w. 0) (weights_of m)) 3
-count_beside (counts.Longest p) = 13
-count_beside (counts.Second p) = 6
-count_beside (counts.Shortest p) = 3
-count_beside _ = 0
-
 abbrev pub greatest_beside : Amount → ℕ
 greatest_beside (plus a b) = greatest_beside a + greatest_beside b
 greatest_beside (number n) = n

@@ -1,8 +1,9 @@
 //! A number for each suit of a hand.
 
 ghost use Rattle.std.specs.Prelude.{◌≡◌, ◌≤◌};
-ghost use Rattle.screens.specs.Suits.{HasUpTo, in_order, longest_in, second_in};
-ghost use Rattle.screens.specs.Suits.{shortest_in, total_in};
+ghost use Rattle.screens.specs.Suits.{HasUpTo, in_order, ordered_in, total_in};
+
+use cards::Order;
 
 /// A number for each suit.
 #[derive(Clone, Copy)]
@@ -14,44 +15,12 @@ pub(crate) struct BySuit {
 }
 
 impl BySuit {
-    /// The greatest.
-    pub(crate) fn longest(self) -> u64
-        ensures value { result ≡ longest_in self }
+    /// The number of this order among the four.
+    pub(crate) fn ordered(self, order: Order) -> u64
+        ensures value { result ≡ ordered_in order self }
         ensures few { HasUpTo 65535 self → result ≤ 65535 }
     {
-        self.spades
-            .max(self.hearts)
-            .max(self.diamonds.max(self.clubs))
-    }
-
-    /// The second greatest.
-    pub(crate) fn second(self) -> u64
-        ensures value { result ≡ second_in self }
-        ensures few { HasUpTo 65535 self → result ≤ 65535 }
-    {
-        let alike = self
-            .spades
-            .min(self.hearts)
-            .max(self.diamonds.min(self.clubs));
-        let spades = self
-            .spades
-            .min(self.diamonds)
-            .max(self.spades.min(self.clubs));
-        let hearts = self
-            .hearts
-            .min(self.diamonds)
-            .max(self.hearts.min(self.clubs));
-        alike.max(spades.max(hearts))
-    }
-
-    /// The least.
-    pub(crate) fn shortest(self) -> u64
-        ensures value { result ≡ shortest_in self }
-        ensures few { HasUpTo 65535 self → result ≤ 65535 }
-    {
-        self.spades
-            .min(self.hearts)
-            .min(self.diamonds.min(self.clubs))
+        order.of(self.spades, self.hearts, self.diamonds, self.clubs)
     }
 
     /// All four together.

@@ -24,7 +24,8 @@ fn is_same(one: [u8; 4], other: [u8; 4]) -> bool
     a == e && (b == f && (c == g && d == h))
 }
 
-/// What is counted, by numbers: what, whose, in which suit, and by which measure or of which ranks.
+/// What is counted, by numbers: what, whose, in which suit, and by which measure, of which order or
+/// of which ranks.
 #[inline(always)]
 fn count_code(count: Count) -> [u8; 4]
     ensures { result ≡ count_code count }
@@ -33,13 +34,11 @@ fn count_code(count: Count) -> [u8; 4]
         Count::Total(measure, seat) => [1, seat as u8, 0, measure as u8],
         Count::SuitTotal(measure, seat, suit) => [2, seat as u8, suit as u8, measure as u8],
         Count::Length(seat, suit) => [3, seat as u8, suit as u8, 0],
-        Count::Longest(seat) => [4, seat as u8, 0, 0],
-        Count::Shortest(seat) => [5, seat as u8, 0, 0],
-        Count::Cards(seat, ranks) => [6, seat as u8, 0, honours_number(ranks)],
+        Count::Ordered(order, seat) => [4, seat as u8, 0, order as u8],
+        Count::Cards(seat, ranks) => [5, seat as u8, 0, honours_number(ranks)],
         Count::SuitCards(seat, suit, ranks) => {
-            [7, seat as u8, suit as u8, honours_number(ranks)]
+            [6, seat as u8, suit as u8, honours_number(ranks)]
         }
-        Count::Second(seat) => [8, seat as u8, 0, 0],
     }
 }
 

@@ -112,9 +112,7 @@ impl Facts {
         ensures few { result ≤ 262140 }
     {
         match count {
-            Count::Longest(seat) => self.least_lengths(seat).longest(),
-            Count::Second(seat) => self.least_lengths(seat).second(),
-            Count::Shortest(seat) => self.least_lengths(seat).shortest(),
+            Count::Ordered(order, seat) => self.least_lengths(seat).ordered(order),
             Count::Total(measure, seat) => self.least_totals(measure, seat).total(),
             _ => 0,
         }
@@ -125,9 +123,7 @@ impl Facts {
         ensures value { result ≡ greatest_made self.now count }
     {
         match count {
-            Count::Longest(seat) => self.greatest_lengths(seat).longest(),
-            Count::Second(seat) => self.greatest_lengths(seat).second(),
-            Count::Shortest(seat) => self.greatest_lengths(seat).shortest(),
+            Count::Ordered(order, seat) => self.greatest_lengths(seat).ordered(order),
             Count::Total(measure, seat) => self.greatest_totals(measure, seat).total(),
             _ => u64::from(count.greatest()),
         }
