@@ -125,11 +125,9 @@ impl Hand {
         ensures value { result ≡ counted_of measure self.now }
         ensures most { result ≤ 40 }
     {
-        let majors =
-            self.counted_in(measure, Suit::Spades) + self.counted_in(measure, Suit::Hearts);
-        majors
-            + self.counted_in(measure, Suit::Diamonds)
-            + self.counted_in(measure, Suit::Clubs)
+        let majors = self.counted_in(measure, Suit::Spades)
+            + self.counted_in(measure, Suit::Hearts);
+        majors + self.counted_in(measure, Suit::Diamonds) + self.counted_in(measure, Suit::Clubs)
     }
 
     /// What the measure counts in the suit's cards, if it counts more than ranks.

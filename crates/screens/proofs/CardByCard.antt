@@ -24,7 +24,7 @@ use Rattle.conditions.specs.Form.{Amount, counted, number, times}
 use Rattle.conditions.specs.Form.{sum as plus}
 use Rattle.conditions.specs.Meaning.{count_in, value_in}
 use Rattle.screens.specs.internal.Shares.{card_weight, greatest_beside, is_at, is_light, weight_at}
-use Rattle.screens.specs.SingleCards.{count_beside, counts_for, rank_weight, whose}
+use Rattle.screens.specs.SingleCards.{count_beside, rank_weight}
 use Rattle.conditions.proofs.HandBounds.{both}
 use Rattle.conditions.proofs.Measured.{counted_most as whole_most, counted_most_in}
 use Rattle.conditions.proofs.ValueBounds.{count_at_least, count_at_most}

@@ -1,5 +1,5 @@
 -- What fixed cards tell of a count is true.
-use Rattle.std.proofs.Common.{◌≡◌, ◌≤◌, ◌<◌, ◌+◌, ◌*◌, ◌&&◌, ◌∙◌, ℕ, zero, suc, All, Bool, true, false, cond, List}
+use Rattle.std.proofs.Common.{◌≡◌, ◌≤◌, ◌<◌, ◌+◌, ◌*◌, ◌∙◌, ℕ, zero, suc, All, Bool, true, false, cond, List}
 use Rattle.std.proofs.Common.{[], ◌∷◌, Option, Some, None, IfSome, ap, arith, get_or, length, map, option_map, refl}
 use Rattle.std.proofs.Common.{sym, unwrap_or}
 use Rattle.std.specs.List.{range_with_len, sum_by}
