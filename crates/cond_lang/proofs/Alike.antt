@@ -16,20 +16,20 @@ use Rattle.conditions.specs.declared.tree.Count.{Count}
 use Rattle.conditions.specs.declared.tree.Item.{Item}
 use Rattle.cond_lang.specs.declared.scanner.Token.{Token}
 use Rattle.cond_lang.specs.declared.scanner.Token.TheVariants.{Or, And, Not, Balanced, Shape, Pattern}
-use Rattle.cond_lang.specs.declared.scanner.Token.TheVariants.{Stops, Cards, Len, Longest, Second, Shortest}
+use Rattle.cond_lang.specs.declared.scanner.Token.TheVariants.{Stops, Cards, Len, Ordered}
 use Rattle.cond_lang.specs.declared.scanner.Token.TheVariants.{In, Neighbour, Number}
 use Rattle.cond_lang.specs.declared.scanner.Token.TheVariants.{Open, Close, Comma, Dash, Plus, Star, Relation}
 use Rattle.cond_lang.specs.declared.scanner.Token.TheVariants.{Name}
 use Rattle.cond_lang.specs.Continuations.{kind_of}
 use Rattle.conditions.specs.Form.{Amount, sum, number, counted, times, measured, suit_measured, cards_held}
-use Rattle.conditions.specs.Form.{suit_cards_held, suit_length, longest, second, shortest, Form, any_of, all_of}
+use Rattle.conditions.specs.Form.{suit_cards_held, suit_length, length_by, Form, any_of, all_of}
 use Rattle.conditions.specs.Form.{negation, compare, within, balanced, shaped, patterned, stops}
 use Rattle.cond_lang.specs.Classes.{choice, seat_bound_to, seat_beside, bind, members, Names}
 use Rattle.cond_lang.specs.Grammar.{Meanings, SpellsArgs, no_args, seat_arg, suit_arg, both_args, named_value}
 use Rattle.cond_lang.specs.Grammar.{named_condition, SpellsCounted, a_count, multiple, SpellsSeat, by_word, by_bound}
 use Rattle.cond_lang.specs.Grammar.{beside, SpellsCount, SpellsHandTest, SpellsAtom, SpellsValue, atom, plus}
-use Rattle.cond_lang.specs.Grammar.{a_number, count, measure, measure_in, len, cards, cards_in, longest_suit}
-use Rattle.cond_lang.specs.Grammar.{second_suit, shortest_suit, four, SpellsCond, both, or, SpellsBoth}
+use Rattle.cond_lang.specs.Grammar.{a_number, count, measure, measure_in, len, cards, cards_in, ordered_suit}
+use Rattle.cond_lang.specs.Grammar.{four, SpellsCond, both, or, SpellsBoth}
 use Rattle.cond_lang.specs.Grammar.{unit, and, SpellsUnit, not, brackets, quantified, test, SpellsTest, comparison}
 use Rattle.cond_lang.specs.Grammar.{in_range, of_hand, is_balanced, has_shape, has_pattern, has_stopper, joined}
 use Rattle.cond_lang.specs.Grammar.{SpellsEach, none as no_more, one_more}
@@ -89,9 +89,8 @@ keep_count f (cards_in {h} i) e0 (more e1 (more {y = z} e2 (more e3 (more {y = w
     let g = like_ranks h w e4 in
     some_count (λ q. suit_cards_held q t.0 g.0) (same Cards refl e0)
     (join (same Comma refl e1) (join refl (join (same Comma refl e3) (join g.1 (join (same Close refl e5) refl))))) (cards_in t.1)
-keep_count f longest_suit e0 (more e1 none) = some_count (λ q. longest q) (same Longest refl e0) (join (same Close refl e1) refl) longest_suit
-keep_count f (second_suit w) e0 (more e1 none) = some_count (λ q. second q) (same Second refl e0) (join (same Close refl e1) refl) (second_suit w)
-keep_count f shortest_suit e0 (more e1 none) = some_count (λ q. shortest q) (same Shortest refl e0) (join (same Close refl e1) refl) shortest_suit
+keep_count f (ordered_suit {o} w) e0 (more e1 none) =
+    some_count (λ q. length_by o q) (same (Ordered o) refl e0) (join (same Close refl e1) refl) (ordered_suit w)
 
 abbrev SomeCounted : Bound → List Token → Type 0
 SomeCounted E T = (k : Count) × SpellsCounted E T k

@@ -15,12 +15,11 @@ use Rattle.conditions.specs.declared.tree.Item.TheVariants.{Length, Any}
 use Rattle.conditions.specs.declared.tree.Op.{Op}
 use Rattle.cond_lang.specs.declared.scanner.Token.{Token}
 use Rattle.cond_lang.specs.declared.scanner.Token.TheVariants.{Or, And, Not, Balanced, Shape, Pattern, Quantifier}
-use Rattle.cond_lang.specs.declared.scanner.Token.TheVariants.{Stops, Measure, Cards, Len, Longest, Second, Shortest}
+use Rattle.cond_lang.specs.declared.scanner.Token.TheVariants.{Stops, Measure, Cards, Len, Ordered}
 use Rattle.cond_lang.specs.declared.scanner.Token.TheVariants.{In, X, Seat, Suit, Class, Neighbour, Ranks, Number}
 use Rattle.cond_lang.specs.declared.scanner.Token.TheVariants.{Open, Close, Comma, Dash, Plus, Star, Relation, Let}
 use Rattle.cond_lang.specs.declared.scanner.Token.TheVariants.{Is, Name}
 use Rattle.cond_lang.specs.Continuations.{kind_of}
-use Rattle.conditions.specs.Form.{second}
 use Rattle.cond_lang.specs.Classes.{bound_to, Names, by_suit, by_class}
 use Rattle.cond_lang.specs.Grammar.{item_token}
 use Rattle.cond_lang.proofs.Scopes.{SameScope, some_of, suits_alike}
@@ -58,9 +57,7 @@ only kind.Stops = Some Stops
 only (kind.Measure m) = Some (Measure m)
 only kind.Cards = Some Cards
 only kind.Len = Some Len
-only kind.Longest = Some Longest
-only kind.Second = Some Second
-only kind.Shortest = Some Shortest
+only (kind.Ordered o) = Some (Ordered o)
 only kind.Plus = Some Plus
 only kind.Star = Some Star
 only kind.In = Some In
@@ -78,38 +75,12 @@ only (kind.Name n) = Some (Name n)
 only k = None
 
 only_of : (y t : Token) → only (kind_of y) ≡ Some t → y ≡ t
-only_of Or t e = cc
-only_of And t e = cc
-only_of Not t e = cc
-only_of Balanced t e = cc
-only_of Shape t e = cc
-only_of Pattern t e = cc
-only_of (Quantifier k) t e = cc
-only_of Stops t e = cc
-only_of (Measure m) t e = cc
-only_of Cards t e = cc
-only_of Len t e = cc
-only_of Longest t e = cc
-only_of Second t e = cc
-only_of Shortest t e = cc
-only_of In t e = cc
-only_of X t e = cc
-only_of Open t e = cc
-only_of Close t e = cc
-only_of Comma t e = cc
-only_of Dash t e = cc
-only_of Plus t e = cc
-only_of Star t e = cc
-only_of (Class c) t e = cc
-only_of (Neighbour n) t e = cc
-only_of Let t e = cc
-only_of Is t e = cc
-only_of (Name n) t e = cc
 only_of (Seat q) t e = absurd (cc)
 only_of (Suit s) t e = absurd (cc)
 only_of (Ranks h) t e = absurd (cc)
 only_of (Number n) t e = absurd (cc)
 only_of (Relation o) t e = absurd (cc)
+only_of y t e = cc
 
 -- a token that is the only one of its kind gives way to itself alone
 pub same : (x : Token) {y : Token} → only (kind_of x) ≡ Some x → kind_of x ≡ kind_of y → y ≡ x

@@ -21,7 +21,7 @@ use Rattle.conditions.specs.Meaning.{holds}
 use Rattle.cond_lang.specs.Classes.{bind, can_bind, choice, members, seat_beside}
 use Rattle.cond_lang.specs.Grammar.{Meanings, named_value, named_condition, a_count, multiple, SpellsCount}
 use Rattle.cond_lang.specs.Grammar.{SpellsAtom, SpellsValue, atom, plus, a_number, count, measure, measure_in, len}
-use Rattle.cond_lang.specs.Grammar.{cards, cards_in, longest_suit, second_suit, shortest_suit, SpellsCond, both, unit}
+use Rattle.cond_lang.specs.Grammar.{cards, cards_in, ordered_suit, SpellsCond, both, unit}
 use Rattle.cond_lang.specs.Grammar.{SpellsUnit, not as negated, brackets, quantified, test, SpellsEach, none}
 use Rattle.cond_lang.specs.Grammar.{one_more, joined, SpellsTest, comparison, in_range, of_hand, is_balanced}
 use Rattle.cond_lang.specs.Grammar.{has_shape, has_pattern, has_stopper}
@@ -33,13 +33,7 @@ use Rattle.cond_lang.proofs.Quantified.{AreEach}
 -- a value doesn't begin with a quantifier
 count_front : {E : Bound} {c : Token} {R : List Token} {f : ASeat → Count} → SpellsCount E c R f → (k : AQuantifier) → Some c ≢ Some (Quantifier k)
 count_front measure k = λ e. cc
-count_front (measure_in i) k = λ e. cc
-count_front (len i) k = λ e. cc
-count_front cards k = λ e. cc
-count_front (cards_in i) k = λ e. cc
-count_front longest_suit k = λ e. cc
-count_front (second_suit w) k = λ e. cc
-count_front shortest_suit k = λ e. cc
+count_front h k = λ e. cc
 
 atom_front : {N : Meanings} {E : Bound} {L : List Token} {a : Amount} → SpellsAtom N E L a
     → (X : List Token) (k : AQuantifier) → front (L ++ X) ≢ Some (Quantifier k)

@@ -12,14 +12,14 @@ use Rattle.cards.specs.declared.suit.Suit.TheVariants.{Spades}
 use Rattle.cond_lang.specs.declared.classes.Bound.{Bound}
 use Rattle.cond_lang.specs.declared.scanner.Token.{Token}
 use Rattle.cond_lang.specs.declared.scanner.Token.TheVariants.{Or, And, Not, Balanced, Shape, Pattern, Measure, Cards}
-use Rattle.cond_lang.specs.declared.scanner.Token.TheVariants.{Len, Longest, Second, Shortest, Seat, Suit, Number}
+use Rattle.cond_lang.specs.declared.scanner.Token.TheVariants.{Len, Ordered, Seat, Suit, Number}
 use Rattle.cond_lang.specs.declared.scanner.Token.TheVariants.{Open, Close, Comma, Plus, Relation, Let}
 use Rattle.conditions.specs.Form.{Amount, number, counted, points, suit_points, suit_length, Form, any_of, all_of, negation, compare}
 use Rattle.cond_lang.specs.Classes.{unbound, by_suit, by_class}
 use Rattle.cond_lang.specs.Definitions.{Spells, SpellsNameless}
 use Rattle.cond_lang.specs.Grammar.{named_value, named_condition, a_count, multiple, Forms, FormsAt, SpellsSeat}
 use Rattle.cond_lang.specs.Grammar.{by_word, by_bound, beside, SpellsCount, SpellsAtom, a_number, count, measure}
-use Rattle.cond_lang.specs.Grammar.{measure_in, len, cards, cards_in, longest_suit, second_suit, shortest_suit}
+use Rattle.cond_lang.specs.Grammar.{measure_in, len, cards, cards_in, ordered_suit}
 use Rattle.cond_lang.specs.Grammar.{SpellsValue, atom, plus, item_token, four, SpellsCond, both, or, BothOf}
 use Rattle.cond_lang.specs.Grammar.{SpellsBoth, unit, and, UnitOf, SpellsUnit, not, brackets, quantified, test}
 use Rattle.cond_lang.specs.Grammar.{SpellsTest, comparison, in_range, of_hand, is_balanced, has_shape, has_pattern}
@@ -108,9 +108,7 @@ keep_count (len (by_class e)) {q} h = (
 )
 keep_count cards h = zero_for Cards _ (λ i. i)
 keep_count (cards_in i) h = zero_for Cards _ (λ i. i)
-keep_count longest_suit h = zero_for Longest _ (λ i. i)
-keep_count (second_suit w) h = zero_for Second _ (λ i. i)
-keep_count shortest_suit h = zero_for Shortest _ (λ i. i)
+keep_count (ordered_suit {o} w) h = zero_for (Ordered o) _ (λ i. i)
 
 keep_atom : {E : Bound} {T : List Token} {a : Amount} → SpellsAtom [] E T a → Kept SpellsFirstAtom T
 keep_atom {T} a_number = itself SpellsFirstAtom T _ small.a_number

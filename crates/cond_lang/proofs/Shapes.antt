@@ -12,7 +12,7 @@ use Rattle.cond_lang.specs.declared.classes.Params.TheVariants.{Plain, OfSeat, O
 use Rattle.cond_lang.specs.declared.classes.Quantifier.{Quantifier as AQuantifier}
 use Rattle.cond_lang.specs.declared.scanner.Token.{Token}
 use Rattle.cond_lang.specs.declared.scanner.Token.TheVariants.{Or, And, Not, Balanced, Shape, Pattern, Quantifier}
-use Rattle.cond_lang.specs.declared.scanner.Token.TheVariants.{Stops, Measure, Cards, Len, Longest, Second, Shortest}
+use Rattle.cond_lang.specs.declared.scanner.Token.TheVariants.{Stops, Measure, Cards, Len, Ordered}
 use Rattle.cond_lang.specs.declared.scanner.Token.TheVariants.{In, Seat, Suit, Class, Neighbour, Number, Open, Comma}
 use Rattle.cond_lang.specs.declared.scanner.Token.TheVariants.{Plus, Star, Name}
 use Rattle.conditions.specs.Form.{Amount, measured, suit_measured, cards_held, Form, balanced}
@@ -142,9 +142,7 @@ module _ {E F : Bound} (f : SameScope E F) where
   count_alike (Measure m ∷ S) = after_alike (open_seat E S) (open_seat F S) _ _ (open_seat_alike S) (λ q p R. rest_of_measure_alike m q p R)
   count_alike (Len ∷ S) = after_alike (seat_and_suit E S) (seat_and_suit F S) _ _ (seat_and_suit_alike S) (λ p q R. refl)
   count_alike (Cards ∷ S) = after_alike (open_seat_comma E S) (open_seat_comma F S) _ _ (open_seat_comma_alike S) (λ q p R. rest_of_cards_alike q p R)
-  count_alike (Longest ∷ S) = after_alike (seat_in_brackets E S) (seat_in_brackets F S) _ _ (seat_in_brackets_alike S) (λ q p R. refl)
-  count_alike (Second ∷ S) = after_alike (seat_in_brackets E S) (seat_in_brackets F S) _ _ (seat_in_brackets_alike S) (λ q p R. refl)
-  count_alike (Shortest ∷ S) = after_alike (seat_in_brackets E S) (seat_in_brackets F S) _ _ (seat_in_brackets_alike S) (λ q p R. refl)
+  count_alike (Ordered o ∷ S) = after_alike (seat_in_brackets E S) (seat_in_brackets F S) _ _ (seat_in_brackets_alike S) (λ q p R. refl)
   count_alike (x ∷ S) = refl
 
   alone_alike : (S : List Token) → shape (count_alone E S) ≡ shape (count_alone F S)

@@ -4,13 +4,15 @@ use Rattle.std.specs.Prelude.{Contains, ◌↔◌}
 use Rattle.std.proofs.lemmas.List.Elements.{Contains-append_left, Contains-append_right}
 use Rattle.cards.specs.declared.hand.Measure.{Measure as AMeasure}
 use Rattle.cards.specs.declared.hand.Measure.TheVariants.{Hcp}
+use Rattle.cards.specs.declared.order.Order.{Order as AnOrder}
+use Rattle.cards.specs.declared.order.Order.TheVariants.{Second}
 use Rattle.cond_lang.specs.declared.classes.Bound.{Bound}
 use Rattle.cond_lang.specs.declared.classes.Choice.{Choice}
 use Rattle.cond_lang.specs.declared.classes.Class.{Class as AClass}
 use Rattle.cond_lang.specs.declared.classes.Class.TheVariants.{Seat as AnySeat, NorthSouth, EastWest}
 use Rattle.cond_lang.specs.declared.scanner.Token.{Token}
 use Rattle.cond_lang.specs.declared.scanner.Token.TheVariants.{Or, And, Not, Shape, Pattern, Quantifier, Stops}
-use Rattle.cond_lang.specs.declared.scanner.Token.TheVariants.{Measure, Cards, Longest, Second, Shortest, In, X, Seat}
+use Rattle.cond_lang.specs.declared.scanner.Token.TheVariants.{Measure, Cards, Ordered, In, X, Seat}
 use Rattle.cond_lang.specs.declared.scanner.Token.TheVariants.{Class, Neighbour, Number, Dash, Open, Close, Plus}
 use Rattle.cond_lang.specs.declared.scanner.Token.TheVariants.{Star, Relation}
 use Rattle.cards.specs.declared.seat.Seat.{Seat as ASeat}
@@ -24,7 +26,7 @@ use Rattle.cond_lang.specs.Grammar.{named_value, named_condition, Addition, quan
 use Rattle.cond_lang.specs.Grammar.{SpellsCounted, a_count, multiple, addition_of, everything, SeatOf, SpellsSeat}
 use Rattle.cond_lang.specs.Grammar.{by_word, by_bound, beside, CountOf, SpellsCount, HandTestOf, SpellsHandTest}
 use Rattle.cond_lang.specs.Grammar.{Amounts, FormsAt, AtomOf, SpellsAtom, a_number, count, measure, measure_in, len}
-use Rattle.cond_lang.specs.Grammar.{cards, cards_in, longest_suit, second_suit, shortest_suit, ValueOf, atom, plus}
+use Rattle.cond_lang.specs.Grammar.{cards, cards_in, ordered_suit, HasOrder, ValueOf, atom, plus}
 use Rattle.cond_lang.specs.Grammar.{four, CondOf, both, or, BothOf, unit, and, UnitOf, not, brackets, quantified}
 use Rattle.cond_lang.specs.Grammar.{test, EachOf, none, one_more, TestOf, SpellsTest, comparison, in_range, of_hand}
 use Rattle.cond_lang.specs.Grammar.{is_balanced, has_shape, has_pattern, has_stopper, SpellsValue}
@@ -139,6 +141,11 @@ module _ (B : Token → Type 0) (P Q : Words) (w : TurnsWords B P Q) (U W : Form
 abbrev IsNone : Token → Type 0
 IsNone c = ⊥
 
+turn_order :
+    (B : Token → Type 0) (P Q : Words) → TurnsWords B P Q → (o : AnOrder) → HasOrder P o → (B (Ordered o) → ⊥) → HasOrder Q o
+turn_order B P Q w Second p n = w (Ordered Second) quantifiers refl n p
+turn_order B P Q w o p n = tt
+
 turn_count :
     (B : Token → Type 0) (P Q : Words) → TurnsWords B P Q → {E : Bound} {c : Token} {R : List Token} {f : ASeat → Count}
     → CountOf P E c R f → (B c → ⊥) → CountOf Q E c R f
@@ -147,9 +154,7 @@ turn_count B P Q w (measure_in i) n = measure_in i
 turn_count B P Q w (len i) n = len i
 turn_count B P Q w cards n = cards
 turn_count B P Q w (cards_in i) n = cards_in i
-turn_count B P Q w longest_suit n = longest_suit
-turn_count B P Q w (second_suit p) n = second_suit (w Second quantifiers refl n p)
-turn_count B P Q w shortest_suit n = shortest_suit
+turn_count B P Q w (ordered_suit {o} p) n = ordered_suit (turn_order B P Q w o p n)
 
 turn_counted :
     (B : Token → Type 0) (P Q : Words) → TurnsWords B P Q → {E : Bound} {T : List Token} {k : Count}
@@ -188,8 +193,7 @@ IsStar c = c ≡ Star
 brought_star : (c : Token) → brought_by c ≡ Some factors → IsStar c
 brought_star Star e = refl
 brought_star (Class AnySeat) e = absurd (cc)
-brought_star (Class NorthSouth) e = absurd (cc)
-brought_star (Class EastWest) e = absurd (cc)
+brought_star (Ordered Second) e = absurd (cc)
 brought_star c e = absurd (cc)
 
 leaves_factors : TurnsWords IsStar everything no_factors
@@ -259,9 +263,7 @@ hcp_count (measure_in {m} i) n = absurd (n (m, (λ e. cc), refl))
 hcp_count (len i) n = small.len i
 hcp_count cards n = small.cards
 hcp_count (cards_in i) n = small.cards_in i
-hcp_count longest_suit n = small.longest_suit
-hcp_count (second_suit w) n = small.second_suit
-hcp_count shortest_suit n = small.shortest_suit
+hcp_count (ordered_suit w) n = small.ordered_suit
 
 hcp_counted : {E : Bound} {T : List Token} {k : Count} → SpellsCounted E T k → HasNone IsOtherMeasure T → HcpCounted E T k
 hcp_counted (count {c} {Q} {R} k h) n = small.count (hcp_count k (none_first IsOtherMeasure c (Open ∷ Q ++ R) n)) h
@@ -272,15 +274,17 @@ hcp_atom E T a (a_count h) n = small.a_count (hcp_counted h n)
 hcp_atom E T a (named_value i h) n = absurd (cc)
 hcp_atom E T a (multiple {n = m} {T = S} w h) n = small.multiple (hcp_counted h (right_of IsOtherMeasure (Number m ∷ []) Star S n))
 
+has_order : (o : AnOrder) → HasOrder everything o
+has_order Second = tt
+has_order o = tt
+
 count_again : {E : Bound} {c : Token} {R : List Token} {f : ASeat → Count} → HcpCount E c R f → SpellsCount E c R f
 count_again small.hcp = measure
 count_again (small.hcp_in i) = measure_in i
 count_again (small.len i) = len i
 count_again small.cards = cards
 count_again (small.cards_in i) = cards_in i
-count_again small.longest_suit = longest_suit
-count_again small.second_suit = second_suit tt
-count_again small.shortest_suit = shortest_suit
+count_again (small.ordered_suit {o}) = ordered_suit (has_order o)
 
 atom_again : (E : Bound) → Turns IsNone (SpellsHcpAtom E) (SpellsAtom [] E)
 atom_again E T a small.a_number n = a_number
@@ -310,7 +314,7 @@ IsLater c = IsFirst c → ⊥
 brought_later : (c : Token) (a : Addition) → brought_by c ≡ Some a → IsLater c
 brought_later (Quantifier k) a e = λ h. h
 brought_later Stops a e = λ h. h
-brought_later Second a e = λ h. h
+brought_later (Ordered Second) a e = λ h. h
 brought_later (Class c) a e = λ h. h
 brought_later (Neighbour n) a e = λ h. h
 brought_later Star a e = λ h. h
@@ -339,9 +343,7 @@ first_count (len by_suit) q n = small.len
 first_count (len (by_class {c} e)) q n = absurd (n (Class c) (λ h. h) (4, omega arith, refl))
 first_count cards q n = absurd (n Cards (λ h. h) (0, omega arith, refl))
 first_count (cards_in i) q n = absurd (n Cards (λ h. h) (0, omega arith, refl))
-first_count longest_suit q n = absurd (n Longest (λ h. h) (0, omega arith, refl))
-first_count (second_suit w) q n = absurd (n Second (λ h. h) (0, omega arith, refl))
-first_count shortest_suit q n = absurd (n Shortest (λ h. h) (0, omega arith, refl))
+first_count (ordered_suit {o} w) q n = absurd (n (Ordered o) (λ h. h) (0, omega arith, refl))
 
 first_atom : (E : Bound) → Turns IsLater (SpellsAtom [] E) SpellsFirstAtom
 first_atom E T a a_number n = small.a_number

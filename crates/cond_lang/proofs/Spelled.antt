@@ -22,8 +22,8 @@ use Rattle.cond_lang.specs.Classes.{bind, can_bind, choice, Names, by_suit, by_c
 use Rattle.cond_lang.specs.Grammar.{Meanings, SpellsArgs, no_args, seat_arg, suit_arg, both_args, named_value}
 use Rattle.cond_lang.specs.Grammar.{named_condition, SpellsCounted, a_count, multiple, SpellsSeat, by_word, by_bound}
 use Rattle.cond_lang.specs.Grammar.{beside, SpellsCount, SpellsHandTest, SpellsAtom, SpellsValue, atom, plus}
-use Rattle.cond_lang.specs.Grammar.{a_number, count, measure, measure_in, len, cards, cards_in, longest_suit}
-use Rattle.cond_lang.specs.Grammar.{second_suit, shortest_suit, item_token, four, SpellsCond, both, or, SpellsBoth}
+use Rattle.cond_lang.specs.Grammar.{a_number, count, measure, measure_in, len, cards, cards_in, ordered_suit}
+use Rattle.cond_lang.specs.Grammar.{item_token, four, SpellsCond, both, or, SpellsBoth}
 use Rattle.cond_lang.specs.Grammar.{unit, and, SpellsUnit, not, brackets, quantified, SpellsEach, none, one_more}
 use Rattle.cond_lang.specs.Grammar.{test, comparison, in_range, of_hand, is_balanced, has_shape, has_pattern}
 use Rattle.cond_lang.specs.Grammar.{has_stopper}
@@ -60,9 +60,7 @@ count_reads (len i) Q q B h = rw (h, named_reads i (Close ∷ B)) refl
 count_reads cards Q q B h = rw h refl
 count_reads (cards_in by_suit) Q q B h = rw h refl
 count_reads (cards_in (by_class e)) Q q B h = rw (h, e) refl
-count_reads longest_suit Q q B h = rw h refl
-count_reads (second_suit w) Q q B h = rw h refl
-count_reads shortest_suit Q q B h = rw h refl
+count_reads (ordered_suit w) Q q B h = rw h refl
 
 counted_reads : {E : Bound} {A : List Token} {k : Count} → SpellsCounted E A k → (B : List Token) → count_of E (A ++ B) ≡ got k B
 counted_reads {E} (count {c} {Q} {R} {q} k h) B =
@@ -96,13 +94,7 @@ as_count : {E : Bound} {c : Token} {R : List Token} {f : ASeat → Count} → Sp
     → (N : Meanings) (X : List Token) → atom_of N E (c ∷ X) ≡ count_alone E (c ∷ X)
 unfolding atom_of number_or_count
 as_count measure N X = refl
-as_count (measure_in i) N X = refl
-as_count (len i) N X = refl
-as_count cards N X = refl
-as_count (cards_in i) N X = refl
-as_count longest_suit N X = refl
-as_count (second_suit w) N X = refl
-as_count shortest_suit N X = refl
+as_count h N X = refl
 
 -- a number ends if no `*` follows
 number_ends : (E : Bound) (n : ℕ) (B : List Token) → front B ≢ Some Star → rest_of_number E n B ≡ got (number n) B
@@ -168,13 +160,7 @@ ranges {N} {E} {L} {a} m n l B =
 count_compares : {E : Bound} {c : Token} {R : List Token} {f : ASeat → Count} → SpellsCount E c R f
     → (N : Meanings) (X : List Token) → unit_by N (reading N) E (c ∷ X) ≡ comparing_by (reading N) E (c ∷ X)
 count_compares measure N X = refl
-count_compares (measure_in i) N X = refl
-count_compares (len i) N X = refl
-count_compares cards N X = refl
-count_compares (cards_in i) N X = refl
-count_compares longest_suit N X = refl
-count_compares (second_suit w) N X = refl
-count_compares shortest_suit N X = refl
+count_compares h N X = refl
 
 atom_compares : {N : Meanings} {E : Bound} {L : List Token} {a : Amount} → SpellsAtom N E L a → (X : List Token)
     → unit_by N (reading N) E (L ++ X) ≡ comparing_by (reading N) E (L ++ X)

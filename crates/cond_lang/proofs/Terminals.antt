@@ -3,6 +3,9 @@ use Rattle.std.proofs.Common.{◌≡◌, ℕ, Bool, true, false, cond, List, [],
 use Rattle.std.proofs.Common.{refl, sym, ap, subst, append_assoc, append-nil}
 use Rattle.cards.specs.declared.honours.Honours.{Honours}
 use Rattle.cards.specs.declared.hand.Measure.{Measure as AMeasure}
+use Rattle.cards.specs.declared.hand.Measure.TheVariants.{Hcp}
+use Rattle.cards.specs.declared.order.Order.{Order as AnOrder}
+use Rattle.cards.specs.declared.order.Order.TheVariants.{Second}
 use Rattle.cards.specs.declared.seat.Seat.{Seat as ASeat}
 use Rattle.cards.specs.declared.seat.Seat.TheVariants.{North}
 use Rattle.cards.specs.declared.suit.Suit.{Suit as ASuit}
@@ -14,16 +17,16 @@ use Rattle.conditions.specs.declared.tree.Count.{Count}
 use Rattle.conditions.specs.declared.tree.Item.TheVariants.{Length, Any}
 use Rattle.conditions.specs.declared.tree.Op.TheVariants.{Equal}
 use Rattle.cond_lang.specs.declared.scanner.Token.{Token}
-use Rattle.cond_lang.specs.declared.scanner.Token.TheVariants.{Star, Measure, Cards, Len, Longest, Second, Shortest}
+use Rattle.cond_lang.specs.declared.scanner.Token.TheVariants.{Star, Measure, Cards, Len, Ordered}
 use Rattle.cond_lang.specs.declared.scanner.Token.TheVariants.{X, Seat, Suit, Class, Neighbour, Ranks, Number, Open}
 use Rattle.cond_lang.specs.declared.scanner.Token.TheVariants.{Close, Comma, Dash, Relation}
 use Rattle.conditions.specs.Form.{number, counted, times, measured, suit_measured, cards_held, suit_cards_held}
-use Rattle.conditions.specs.Form.{suit_length, longest, second, shortest}
+use Rattle.conditions.specs.Form.{suit_length, length_by}
 use Rattle.cond_lang.specs.Classes.{bound_to, seat_bound_to, can_bind, Names, by_suit, by_class, seat_beside}
 use Rattle.cond_lang.specs.Grammar.{Meanings}
 use Rattle.cond_lang.specs.Grammar.{SpellsCounted, a_count, multiple, SpellsSeat, by_word}
 use Rattle.cond_lang.specs.Grammar.{by_bound, beside, SpellsAtom, a_number, count, measure, measure_in, len, cards}
-use Rattle.cond_lang.specs.Grammar.{cards_in, longest_suit, second_suit, shortest_suit, item_token}
+use Rattle.cond_lang.specs.Grammar.{cards_in, ordered_suit, HasOrder, everything, item_token}
 use Rattle.cond_lang.specs.internal.Reading.{Outcome, got, stuck, Reader, after, opened, closed, comma, dash, seat}
 use Rattle.cond_lang.specs.internal.Reading.{class_seat, suit, class_suit, class, digits, ranks, item, relation}
 use Rattle.cond_lang.specs.internal.Reading.{closing, comma_suit_close, rest_of_measure, ranks_close}
@@ -322,8 +325,12 @@ reads_range S =
     (λ _ S. reads_then (λ n. Number n ∷ []) (λ P p. Number m ∷ Dash ∷ P ≡ Number p.0 ∷ Dash ∷ Number p.1 ∷ []) digits _ S (digits S)
     (λ n. ([], (m, n), refl)) (reads_digits S) (λ n S. gets _ (m, n) S refl)))
 
+has_order : (o : AnOrder) → HasOrder everything o
+has_order Second = tt
+has_order o = tt
+
 some_count : (E : Bound) → HasSome (SpellsCounted E)
-some_count E = (Longest ∷ Open ∷ Seat North ∷ Close ∷ [], longest North, count {Q = Seat North ∷ []} longest_suit by_word)
+some_count E = (Measure Hcp ∷ Open ∷ Seat North ∷ Close ∷ [], measured Hcp North, count {Q = Seat North ∷ []} measure by_word)
 
 joined_len : (E : Bound) (P Q : List Token) (p : ASeat × ASuit) (a : Count) → AreSeatAndSuit E P p
     → (Q ≡ []) × (a ≡ suit_length p.0 p.1) → SpellsCounted E (Len ∷ P ++ Q) a
@@ -371,15 +378,9 @@ reads_count_of E (Cards ∷ S) =
     (λ q R. rest_of_cards E q R) S (open_seat_comma E S)
     (joined_cards E) (λ q. (Ranks some_ranks ∷ Close ∷ [], cards_held q some_ranks, λ L h. count cards h))
     (reads_open_seat_comma E S) (reads_rest_of_cards E))
-reads_count_of E (Longest ∷ S) =
-    reads_token _ _ Longest (λ S. after (seat_in_brackets E S) (λ q R. got (longest q) R)) (count_of E) S _ (λ P x m. m) (λ X. refl)
-    (reads_count E Longest longest (λ L q h. count longest_suit h) S)
-reads_count_of E (Second ∷ S) =
-    reads_token _ _ Second (λ S. after (seat_in_brackets E S) (λ q R. got (second q) R)) (count_of E) S _ (λ P x m. m) (λ X. refl)
-    (reads_count E Second second (λ L q h. count (second_suit tt) h) S)
-reads_count_of E (Shortest ∷ S) =
-    reads_token _ _ Shortest (λ S. after (seat_in_brackets E S) (λ q R. got (shortest q) R)) (count_of E) S _ (λ P x m. m) (λ X. refl)
-    (reads_count E Shortest shortest (λ L q h. count shortest_suit h) S)
+reads_count_of E (Ordered o ∷ S) =
+    reads_token _ _ (Ordered o) (λ S. after (seat_in_brackets E S) (λ q R. got (length_by o q) R)) (count_of E) S _ (λ P x m. m) (λ X. refl)
+    (reads_count E (Ordered o) (length_by o) (λ L q h. count (ordered_suit (has_order o)) h) S)
 reads_count_of E (c ∷ S) = stops_at _ c (count_of E) S (some_count E) (λ X. refl)
 
 -- a count alone

@@ -5,7 +5,7 @@ use Rattle.cond_lang.specs.declared.words.Kind.TheVariants as kind
 use Rattle.cond_lang.specs.declared.scanner.Placed.{Placed}
 use Rattle.cond_lang.specs.declared.scanner.Token.{Token}
 use Rattle.cond_lang.specs.declared.scanner.Token.TheVariants.{Or, And, Not, Balanced, Shape, Pattern, Quantifier}
-use Rattle.cond_lang.specs.declared.scanner.Token.TheVariants.{Stops, Measure, Cards, Len, Longest, Second, Shortest}
+use Rattle.cond_lang.specs.declared.scanner.Token.TheVariants.{Stops, Measure, Cards, Len, Ordered}
 use Rattle.cond_lang.specs.declared.scanner.Token.TheVariants.{In, X, Seat, Suit, Class, Neighbour, Ranks, Number}
 use Rattle.cond_lang.specs.declared.scanner.Token.TheVariants.{Open, Close, Comma, Dash, Plus, Star, Relation, Let}
 use Rattle.cond_lang.specs.declared.scanner.Token.TheVariants.{Is, Name}
@@ -28,9 +28,7 @@ kind_of (Number n) = kind.Number
 kind_of (Measure m) = kind.Measure m
 kind_of Cards = kind.Cards
 kind_of Len = kind.Len
-kind_of Longest = kind.Longest
-kind_of Second = kind.Second
-kind_of Shortest = kind.Shortest
+kind_of (Ordered o) = kind.Ordered o
 kind_of Plus = kind.Plus
 kind_of Star = kind.Star
 kind_of (Relation o) = kind.Relation

@@ -7,9 +7,12 @@ use Rattle.std.specs.List.{AllByRecursion, filter_map, list_all, list_any}
 use Rattle.std.specs.Str.{bytes_eq}
 use Rattle.std.specs.Char.{is_ascii_lowercase, is_ascii_digit}
 use Rattle.cards.specs.Measures.{measures}
+use Rattle.cards.specs.Orders.{orders}
 use Rattle.cards.specs.declared.hand.Measure.{Measure as AMeasure}
 use Rattle.cards.specs.declared.hand.Measure.TheVariants.{Hcp, Controls, Losers}
 use Rattle.cards.specs.declared.honours.Honours.{Honours}
+use Rattle.cards.specs.declared.order.Order.{Order as AnOrder}
+use Rattle.cards.specs.declared.order.Order.TheVariants.{Longest, Second, Shortest}
 use Rattle.cards.specs.declared.seat.Seat.TheVariants.{North, East, South, West}
 use Rattle.cards.specs.declared.suit.Suit.TheVariants.{Spades, Hearts, Diamonds, Clubs}
 use Rattle.conditions.specs.declared.tree.Op.TheVariants.{Equal, NotEqual, Less, AtMost, More, AtLeast}
@@ -18,7 +21,7 @@ use Rattle.cond_lang.specs.declared.classes.Neighbour.TheVariants.{Partner, Left
 use Rattle.cond_lang.specs.declared.classes.Quantifier.TheVariants.{Any, Every}
 use Rattle.cond_lang.specs.declared.scanner.Token.{Token}
 use Rattle.cond_lang.specs.declared.scanner.Token.TheVariants.{Or, And, Not, Balanced, Shape, Pattern, Quantifier}
-use Rattle.cond_lang.specs.declared.scanner.Token.TheVariants.{Stops, Measure, Cards, Len, Longest, Second, Shortest}
+use Rattle.cond_lang.specs.declared.scanner.Token.TheVariants.{Stops, Measure, Cards, Len, Ordered}
 use Rattle.cond_lang.specs.declared.scanner.Token.TheVariants.{In, X, Seat, Suit, Class, Neighbour, Ranks, Number}
 use Rattle.cond_lang.specs.declared.scanner.Token.TheVariants.{Open, Close, Comma, Dash, Plus, Star, Relation, Let}
 use Rattle.cond_lang.specs.declared.scanner.Token.TheVariants.{Is, Name}
@@ -33,6 +36,12 @@ abbrev pub measure_word : AMeasure → List ℕ
 measure_word Hcp = codes "hcp"
 measure_word Controls = codes "controls"
 measure_word Losers = codes "losers"
+
+-- the word of an order
+abbrev pub order_word : AnOrder → List ℕ
+order_word Longest = codes "longest"
+order_word Second = codes "second"
+order_word Shortest = codes "shortest"
 
 -- the known words, each with its token
 abbrev pub words : List (List ℕ × Token)
@@ -49,10 +58,8 @@ words =
     ∷ map (λ m. (measure_word m, Measure m)) measures
     ++ (codes "cards", Cards)
     ∷ (codes "len", Len)
-    ∷ (codes "longest", Longest)
-    ∷ (codes "second", Second)
-    ∷ (codes "shortest", Shortest)
-    ∷ (codes "in", In)
+    ∷ map (λ o. (order_word o, Ordered o)) orders
+    ++ (codes "in", In)
     ∷ (codes "x", X)
     ∷ (codes "north", Seat North)
     ∷ (codes "east", Seat East)

@@ -26,6 +26,8 @@
 use Rattle.std.specs.Prelude.{◌≡◌, ℕ, true, List, [], ◌∷◌, ◌++◌, Some, fold, slice_get}
 use Rattle.cards.specs.declared.honours.Honours.{Honours}
 use Rattle.cards.specs.declared.hand.Measure.{Measure as AMeasure}
+use Rattle.cards.specs.declared.order.Order.{Order as AnOrder}
+use Rattle.cards.specs.declared.order.Order.TheVariants.{Second}
 use Rattle.cards.specs.declared.seat.Seat.{Seat as ASeat}
 use Rattle.cards.specs.declared.seat.Seat.TheVariants.{North}
 use Rattle.cards.specs.declared.suit.Suit.{Suit as ASuit}
@@ -45,11 +47,11 @@ use Rattle.cond_lang.specs.declared.classes.Quantifier.{Quantifier as AQuantifie
 use Rattle.cond_lang.specs.declared.classes.Quantifier.TheVariants.{Any as OneOf, Every}
 use Rattle.cond_lang.specs.declared.scanner.Token.{Token}
 use Rattle.cond_lang.specs.declared.scanner.Token.TheVariants.{Or, And, Not, Balanced, Shape, Pattern, Quantifier}
-use Rattle.cond_lang.specs.declared.scanner.Token.TheVariants.{Stops, Measure, Cards, Len, Longest, Second, Shortest}
+use Rattle.cond_lang.specs.declared.scanner.Token.TheVariants.{Stops, Measure, Cards, Len, Ordered}
 use Rattle.cond_lang.specs.declared.scanner.Token.TheVariants.{In, X, Seat, Class, Neighbour, Ranks, Number, Open}
 use Rattle.cond_lang.specs.declared.scanner.Token.TheVariants.{Close, Comma, Dash, Plus, Star, Relation, Name}
 use Rattle.conditions.specs.Form.{Amount, sum, number, counted, times, measured, suit_measured, cards_held}
-use Rattle.conditions.specs.Form.{suit_cards_held, suit_length, longest, second, shortest, Form, any_of, all_of}
+use Rattle.conditions.specs.Form.{suit_cards_held, suit_length, length_by, Form, any_of, all_of}
 use Rattle.conditions.specs.Form.{negation, compare, within, balanced, shaped, patterned, stops}
 use Rattle.cond_lang.specs.Classes.{bind, can_bind, members, Names, choice, seat_bound_to, seat_beside}
 
@@ -66,6 +68,11 @@ addition_of AnySeat = seats
 addition_of NorthSouth = seats
 addition_of EastWest = seats
 addition_of c = quantifiers
+
+-- whether the rules have the word of an order
+abbrev pub HasOrder : (Addition → Type 0) → AnOrder → Type 0
+HasOrder W Second = W quantifiers
+HasOrder W o = Unit {0}
 
 -- tokens that name a seat: its word, that of a bound class, or a neighbour of such a seat
 pub data SeatOf (W : Addition → Type 0) (E : Bound) : List Token → ASeat → Type 0 where
@@ -91,9 +98,8 @@ pub data CountOf (W : Addition → Type 0) (E : Bound)
   cards_in :
       {c : Token} {s : ASuit} {h : Honours} → Names E c s
       → CountOf W E Cards (Comma ∷ c ∷ Comma ∷ Ranks h ∷ Close ∷ []) (λ q. suit_cards_held q s h)
-  longest_suit : CountOf W E Longest (Close ∷ []) (λ q. longest q)
-  second_suit : W quantifiers → CountOf W E Second (Close ∷ []) (λ q. second q)
-  shortest_suit : CountOf W E Shortest (Close ∷ []) (λ q. shortest q)
+  ordered_suit :
+      {o : AnOrder} → HasOrder W o → CountOf W E (Ordered o) (Close ∷ []) (λ q. length_by o q)
 
 -- what counts in the hand of a seat
 pub data CountedOf (W : Addition → Type 0) (E : Bound) : List Token → Count → Type 0 where

@@ -5,6 +5,8 @@
 use Rattle.std.specs.Prelude.{◌≡◌, ◌≢◌, ℕ, List, [], ◌∷◌, ◌++◌, Option, Some, None}
 use Rattle.cards.specs.declared.honours.Honours.{Honours}
 use Rattle.cards.specs.declared.hand.Measure.TheVariants.{Hcp}
+use Rattle.cards.specs.declared.order.Order.{Order as AnOrder}
+use Rattle.cards.specs.declared.order.Order.TheVariants.{Second}
 use Rattle.cards.specs.declared.seat.Seat.{Seat as ASeat}
 use Rattle.cards.specs.declared.suit.Suit.{Suit as ASuit}
 use Rattle.conditions.specs.declared.tree.Count.{Count}
@@ -12,11 +14,11 @@ use Rattle.conditions.specs.declared.tree.Op.{Op}
 use Rattle.cond_lang.specs.declared.classes.Bound.{Bound}
 use Rattle.cond_lang.specs.declared.scanner.Token.{Token}
 use Rattle.cond_lang.specs.declared.scanner.Token.TheVariants.{Balanced, Shape, Pattern, Quantifier, Stops, Measure}
-use Rattle.cond_lang.specs.declared.scanner.Token.TheVariants.{Cards, Len, Longest, Second, Shortest, In, X, Seat}
+use Rattle.cond_lang.specs.declared.scanner.Token.TheVariants.{Cards, Len, Ordered, In, X, Seat}
 use Rattle.cond_lang.specs.declared.scanner.Token.TheVariants.{Suit, Class, Neighbour, Ranks, Number, Open, Close}
 use Rattle.cond_lang.specs.declared.scanner.Token.TheVariants.{Comma, Dash, Plus, Star, Relation, Let, Is, Name}
 use Rattle.conditions.specs.Form.{Amount, Form, number, counted, times, points, suit_points, cards_held}
-use Rattle.conditions.specs.Form.{suit_cards_held, suit_length, longest, second, shortest, compare, balanced, shape}
+use Rattle.conditions.specs.Form.{suit_cards_held, suit_length, length_by, compare, balanced, shape}
 use Rattle.conditions.specs.Form.{pattern}
 use Rattle.cond_lang.specs.Classes.{unbound, Names}
 use Rattle.cond_lang.specs.Faults.{IsViableIn}
@@ -31,7 +33,7 @@ SpellsWith W T t = CondOf W (λ E. TestOf W [] E (ValueOf (AtomOf W [] E))) unbo
 abbrev pub brought_by : Token → Option Addition
 brought_by (Quantifier k) = Some quantifiers
 brought_by Stops = Some quantifiers
-brought_by Second = Some quantifiers
+brought_by (Ordered Second) = Some quantifiers
 brought_by (Class c) = Some (addition_of c)
 brought_by (Neighbour n) = Some seats
 brought_by Star = Some factors
@@ -94,9 +96,7 @@ pub data HcpCount (E : Bound) : Token → List Token → (ASeat → Count) → T
   cards_in :
       {c : Token} {s : ASuit} {h : Honours} → Names E c s
       → HcpCount E Cards (Comma ∷ c ∷ Comma ∷ Ranks h ∷ Close ∷ []) (λ q. suit_cards_held q s h)
-  longest_suit : HcpCount E Longest (Close ∷ []) (λ q. longest q)
-  second_suit : HcpCount E Second (Close ∷ []) (λ q. second q)
-  shortest_suit : HcpCount E Shortest (Close ∷ []) (λ q. shortest q)
+  ordered_suit : {o : AnOrder} → HcpCount E (Ordered o) (Close ∷ []) (λ q. length_by o q)
 
 pub data HcpCounted (E : Bound) : List Token → Count → Type 0 where
   count :
@@ -160,14 +160,12 @@ abbrev pub IsFirst : Token → Type 0
 IsFirst (Measure Hcp) = Unit {0}
 IsFirst (Measure m) = ⊥
 IsFirst Cards = ⊥
-IsFirst Longest = ⊥
-IsFirst Shortest = ⊥
+IsFirst (Ordered o) = ⊥
 IsFirst In = ⊥
 IsFirst X = ⊥
 IsFirst (Ranks h) = ⊥
 IsFirst (Quantifier k) = ⊥
 IsFirst Stops = ⊥
-IsFirst Second = ⊥
 IsFirst (Class c) = ⊥
 IsFirst (Neighbour n) = ⊥
 IsFirst Star = ⊥

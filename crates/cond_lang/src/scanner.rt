@@ -15,7 +15,7 @@ use crate::classes::{Class, Neighbour, Quantifier};
 use crate::naming::Names;
 use crate::words::WORDS;
 use arrayvec::ArrayVec;
-use cards::{Honours, Measure, Seat, Suit};
+use cards::{Honours, Measure, Order, Seat, Suit};
 use conditions::{CondError, Op};
 
 /// A token of the language: a known word, ranks, a number of at most four digits, a symbol, or a
@@ -34,9 +34,7 @@ pub enum Token {
     Measure(Measure),
     Cards,
     Len,
-    Longest,
-    Second,
-    Shortest,
+    Ordered(Order),
     In,
     X,
     Seat(Seat),

@@ -2,16 +2,16 @@
 
 ghost use Rattle.std.specs.Prelude.{◌≡◌, ◌<◌, None, IfSome, length};
 ghost use Rattle.cond_lang.specs.Continuations.{kind_of};
-ghost use Rattle.cond_lang.specs.Cut.{measure_word};
+ghost use Rattle.cond_lang.specs.Cut.{measure_word, order_word};
 ghost use Rattle.cond_lang.specs.Kinds.{IsListed, all_kinds, place_of};
 
 use crate::classes::{Class, Neighbour, Quantifier};
 use crate::scanner::Token;
-use cards::{Honours, Measure, Seat, Suit};
+use cards::{Honours, Measure, Order, Seat, Suit};
 use conditions::Op;
 
 /// The words of the language, each with its token: the table `words` of the definition.
-pub const WORDS: [(&str, Token); 36 + Measure::COUNT] = [
+pub const WORDS: [(&str, Token); 33 + Measure::COUNT + Order::COUNT] = [
     ("or", Token::Or),
     ("and", Token::And),
     ("not", Token::Not),
@@ -26,9 +26,9 @@ pub const WORDS: [(&str, Token); 36 + Measure::COUNT] = [
     ("losers", Token::Measure(Measure::Losers)),
     ("cards", Token::Cards),
     ("len", Token::Len),
-    ("longest", Token::Longest),
-    ("second", Token::Second),
-    ("shortest", Token::Shortest),
+    ("longest", Token::Ordered(Order::Longest)),
+    ("second", Token::Ordered(Order::Second)),
+    ("shortest", Token::Ordered(Order::Shortest)),
     ("in", Token::In),
     ("x", Token::X),
     ("north", Token::Seat(Seat::North)),
@@ -64,6 +64,17 @@ pub fn measure_word(measure: Measure) -> &'static str
     }
 }
 
+/// The word of the order.
+pub fn order_word(order: Order) -> &'static str
+    ensures { result.now ≡ order_word order }
+{
+    match order {
+        Order::Longest => "longest",
+        Order::Second => "second",
+        Order::Shortest => "shortest",
+    }
+}
+
 /// What the measures count, a line or more for each: a part of the page of the language, in plain
 /// text of 80 columns at most.
 pub(crate) const MEASURE_LINES: &str =
@@ -92,9 +103,7 @@ pub enum Kind {
     Measure(Measure),
     Cards,
     Len,
-    Longest,
-    Second,
-    Shortest,
+    Ordered(Order),
     Plus,
     Star,
     Relation,
@@ -127,7 +136,10 @@ const ACE: Honours = Honours {
 
 impl Kind {
     /// How many kinds there are, beside the names.
-    pub const COUNT: usize = 40 + Measure::COUNT;
+    pub const COUNT: usize = 37 + Kind::OF_TABLES;
+
+    /// How many of them are a measure or an order.
+    const OF_TABLES: usize = Measure::COUNT + Order::COUNT;
 
     /// All kinds but the names, in the order in which a person is told them.
     pub const ALL: [Kind; Kind::COUNT] = [
@@ -146,9 +158,9 @@ impl Kind {
         Kind::Measure(Measure::Losers),
         Kind::Cards,
         Kind::Len,
-        Kind::Longest,
-        Kind::Second,
-        Kind::Shortest,
+        Kind::Ordered(Order::Longest),
+        Kind::Ordered(Order::Second),
+        Kind::Ordered(Order::Shortest),
         Kind::Plus,
         Kind::Star,
         Kind::Relation,
@@ -197,34 +209,32 @@ impl Kind {
             Kind::Measure(measure) => 10 + measure.place(),
             Kind::Cards => 10 + Measure::COUNT,
             Kind::Len => 11 + Measure::COUNT,
-            Kind::Longest => 12 + Measure::COUNT,
-            Kind::Second => 13 + Measure::COUNT,
-            Kind::Shortest => 14 + Measure::COUNT,
-            Kind::Plus => 15 + Measure::COUNT,
-            Kind::Star => 16 + Measure::COUNT,
-            Kind::Relation => 17 + Measure::COUNT,
-            Kind::In => 18 + Measure::COUNT,
-            Kind::Dash => 19 + Measure::COUNT,
-            Kind::X => 20 + Measure::COUNT,
-            Kind::Comma => 21 + Measure::COUNT,
-            Kind::Seat => 22 + Measure::COUNT,
-            Kind::Class(Class::Seat) => 23 + Measure::COUNT,
-            Kind::Class(Class::NorthSouth) => 24 + Measure::COUNT,
-            Kind::Class(Class::EastWest) => 25 + Measure::COUNT,
-            Kind::Neighbour(Neighbour::Partner) => 26 + Measure::COUNT,
-            Kind::Neighbour(Neighbour::Left) => 27 + Measure::COUNT,
-            Kind::Neighbour(Neighbour::Right) => 28 + Measure::COUNT,
-            Kind::Suit => 29 + Measure::COUNT,
-            Kind::Class(Class::Suit) => 30 + Measure::COUNT,
-            Kind::Class(Class::Major) => 31 + Measure::COUNT,
-            Kind::Class(Class::Minor) => 32 + Measure::COUNT,
-            Kind::Class(Class::Other) => 33 + Measure::COUNT,
-            Kind::Ranks => 34 + Measure::COUNT,
-            Kind::Is => 35 + Measure::COUNT,
-            Kind::Close => 36 + Measure::COUNT,
-            Kind::And => 37 + Measure::COUNT,
-            Kind::Or => 38 + Measure::COUNT,
-            Kind::End => 39 + Measure::COUNT,
+            Kind::Ordered(order) => 12 + Measure::COUNT + order.place(),
+            Kind::Plus => 12 + Kind::OF_TABLES,
+            Kind::Star => 13 + Kind::OF_TABLES,
+            Kind::Relation => 14 + Kind::OF_TABLES,
+            Kind::In => 15 + Kind::OF_TABLES,
+            Kind::Dash => 16 + Kind::OF_TABLES,
+            Kind::X => 17 + Kind::OF_TABLES,
+            Kind::Comma => 18 + Kind::OF_TABLES,
+            Kind::Seat => 19 + Kind::OF_TABLES,
+            Kind::Class(Class::Seat) => 20 + Kind::OF_TABLES,
+            Kind::Class(Class::NorthSouth) => 21 + Kind::OF_TABLES,
+            Kind::Class(Class::EastWest) => 22 + Kind::OF_TABLES,
+            Kind::Neighbour(Neighbour::Partner) => 23 + Kind::OF_TABLES,
+            Kind::Neighbour(Neighbour::Left) => 24 + Kind::OF_TABLES,
+            Kind::Neighbour(Neighbour::Right) => 25 + Kind::OF_TABLES,
+            Kind::Suit => 26 + Kind::OF_TABLES,
+            Kind::Class(Class::Suit) => 27 + Kind::OF_TABLES,
+            Kind::Class(Class::Major) => 28 + Kind::OF_TABLES,
+            Kind::Class(Class::Minor) => 29 + Kind::OF_TABLES,
+            Kind::Class(Class::Other) => 30 + Kind::OF_TABLES,
+            Kind::Ranks => 31 + Kind::OF_TABLES,
+            Kind::Is => 32 + Kind::OF_TABLES,
+            Kind::Close => 33 + Kind::OF_TABLES,
+            Kind::And => 34 + Kind::OF_TABLES,
+            Kind::Or => 35 + Kind::OF_TABLES,
+            Kind::End => 36 + Kind::OF_TABLES,
             Kind::Name(_) => Kind::COUNT,
         }
     }
@@ -248,9 +258,7 @@ impl Kind {
             Kind::Measure(measure) => Token::Measure(measure),
             Kind::Cards => Token::Cards,
             Kind::Len => Token::Len,
-            Kind::Longest => Token::Longest,
-            Kind::Second => Token::Second,
-            Kind::Shortest => Token::Shortest,
+            Kind::Ordered(order) => Token::Ordered(order),
             Kind::Plus => Token::Plus,
             Kind::Star => Token::Star,
             Kind::Relation => Token::Relation(Op::Equal),

@@ -21,13 +21,13 @@ use Rattle.cond_lang.specs.declared.classes.Params.TheVariants.{Plain, OfSeat, O
 use Rattle.cond_lang.specs.declared.classes.Quantifier.{Quantifier as AQuantifier}
 use Rattle.cond_lang.specs.declared.scanner.Token.{Token}
 use Rattle.cond_lang.specs.declared.scanner.Token.TheVariants.{Or, And, Not, Balanced, Shape, Pattern, Quantifier}
-use Rattle.cond_lang.specs.declared.scanner.Token.TheVariants.{Stops, Measure, Cards, Len, Longest, Second, Shortest}
+use Rattle.cond_lang.specs.declared.scanner.Token.TheVariants.{Stops, Measure, Cards, Len, Ordered}
 use Rattle.cond_lang.specs.declared.scanner.Token.TheVariants.{In, X, Seat, Suit, Class, Neighbour, Ranks, Number}
 use Rattle.cond_lang.specs.declared.scanner.Token.TheVariants.{Open, Close, Comma, Dash, Plus, Star, Relation, Name}
 use Rattle.cond_lang.specs.declared.parser.Refusal.{Refusal}
 use Rattle.cond_lang.specs.declared.parser.Refusal.TheVariants.{Syntax, Memory}
 use Rattle.conditions.specs.Form.{Amount, sum, number, counted, times, measured, suit_measured, cards_held}
-use Rattle.conditions.specs.Form.{suit_cards_held, suit_length, longest, second, shortest, Form, any_of, all_of}
+use Rattle.conditions.specs.Form.{suit_cards_held, suit_length, length_by, Form, any_of, all_of}
 use Rattle.conditions.specs.Form.{negation, compare, within, balanced, shaped, patterned, stops}
 use Rattle.cond_lang.specs.Classes.{bound_to, bind, can_bind, is_member, choice, all_choices, seat_bound_to, seat_beside}
 use Rattle.cond_lang.specs.Grammar.{Meaning, Meanings, condition, value, joined}
@@ -170,11 +170,9 @@ abbrev pub range : Reader (ℕ × ℕ)
 range S =
     after (digits S) (λ m S. after (dash S) (λ _ S. after (digits S) (λ n S. got (m, n) S)))
 
--- how long one of a hand's suits is, by its place among them
+-- how long one of a hand's suits is, by its order among them
 abbrev pub suit_count : Bound → Reader Count
-suit_count E (Longest ∷ S) = after (seat_in_brackets E S) (λ q R. got (longest q) R)
-suit_count E (Second ∷ S) = after (seat_in_brackets E S) (λ q R. got (second q) R)
-suit_count E (Shortest ∷ S) = after (seat_in_brackets E S) (λ q R. got (shortest q) R)
+suit_count E (Ordered o ∷ S) = after (seat_in_brackets E S) (λ q R. got (length_by o q) R)
 suit_count E S = stuck S
 
 unfoldable pub count_of : Bound → Reader Count

@@ -69,23 +69,15 @@ impl<'a> Parser<'a> {
         }
     }
 
-    /// The length of a hand's longest, second longest or shortest suit.
+    /// The length of a hand's suit by its order among the four.
     fn suit_count(&mut self, bound: Bound) -> Result<Count, Refusal>
         ensures gives { Gives (λ k. k) result self.new (suit_count bound self.old) }
         ensures shorter { length self.new ≤ length self.old }
     {
         match self.peek() {
-            Some(Token::Longest) => {
+            Some(Token::Ordered(order)) => {
                 self.advance();
-                Ok(Count::Longest(self.seat_in_brackets(bound)?))
-            }
-            Some(Token::Second) => {
-                self.advance();
-                Ok(Count::Second(self.seat_in_brackets(bound)?))
-            }
-            Some(Token::Shortest) => {
-                self.advance();
-                Ok(Count::Shortest(self.seat_in_brackets(bound)?))
+                Ok(Count::Ordered(order, self.seat_in_brackets(bound)?))
             }
             _ => Err(Refusal::Syntax),
         }
