@@ -14,38 +14,14 @@ use Rattle.deals_cli.specs.Program.{IsStatusOfNone, MayRefuse, MayShow, is_shown
 -- ---- of an error of clap
 
 pub mistake : (k : ErrorKind) → (k ≡ DisplayHelp → ⊥) → (k ≡ DisplayVersion → ⊥) → is_shown k ≡ false
-mistake InvalidValue h v = refl
-mistake UnknownArgument h v = refl
-mistake InvalidSubcommand h v = refl
-mistake NoEquals h v = refl
-mistake ValueValidation h v = refl
-mistake TooManyValues h v = refl
-mistake TooFewValues h v = refl
-mistake WrongNumberOfValues h v = refl
-mistake ArgumentConflict h v = refl
-mistake MissingRequiredArgument h v = refl
-mistake MissingSubcommand h v = refl
 mistake DisplayHelp h v = absurd (h refl)
-mistake DisplayHelpOnMissingArgumentOrSubcommand h v = refl
 mistake DisplayVersion h v = absurd (v refl)
-mistake _ h v = refl
+mistake x h v = refl
 
 pub no_mistake : (k : ErrorKind) → ((k ≡ DisplayHelp → ⊥) × (k ≡ DisplayVersion → ⊥) → ⊥) → is_shown k ≡ true
-no_mistake InvalidValue h = absurd (h ((λ e. cc), (λ e. cc)))
-no_mistake UnknownArgument h = absurd (h ((λ e. cc), (λ e. cc)))
-no_mistake InvalidSubcommand h = absurd (h ((λ e. cc), (λ e. cc)))
-no_mistake NoEquals h = absurd (h ((λ e. cc), (λ e. cc)))
-no_mistake ValueValidation h = absurd (h ((λ e. cc), (λ e. cc)))
-no_mistake TooManyValues h = absurd (h ((λ e. cc), (λ e. cc)))
-no_mistake TooFewValues h = absurd (h ((λ e. cc), (λ e. cc)))
-no_mistake WrongNumberOfValues h = absurd (h ((λ e. cc), (λ e. cc)))
-no_mistake ArgumentConflict h = absurd (h ((λ e. cc), (λ e. cc)))
-no_mistake MissingRequiredArgument h = absurd (h ((λ e. cc), (λ e. cc)))
-no_mistake MissingSubcommand h = absurd (h ((λ e. cc), (λ e. cc)))
 no_mistake DisplayHelp h = refl
-no_mistake DisplayHelpOnMissingArgumentOrSubcommand h = absurd (h ((λ e. cc), (λ e. cc)))
 no_mistake DisplayVersion h = refl
-no_mistake _ h = absurd (h ((λ e. cc), (λ e. cc)))
+no_mistake x h = absurd (h ((λ e. cc), (λ e. cc)))
 
 -- what clap shows, and what it refuses
 pub ruleset kinds = (mistake, no_mistake)

@@ -62,9 +62,7 @@ written deal k = map (written_at deal k) (range_with_len 0 52)
 
 few_seats : (seat : Seat) → seat_number seat < 4
 few_seats North = omega arith
-few_seats East = omega arith
-few_seats South = omega arith
-few_seats West = omega arith
+few_seats x = omega arith
 
 one_place : (deal : List Seat) (i c : ℕ) → i < 52 → c < 52 → place deal i ≡ place deal c → i ≡ c
 one_place deal i c below also same =
@@ -137,9 +135,7 @@ pub record IsPart (p q : ℕ) (seat : Seat) : Type 0 where
 
 seat_again : (seat : Seat) → seat_of_number (seat_number seat) ≡ seat
 seat_again North = refl
-seat_again East = refl
-seat_again South = refl
-seat_again West = refl
+seat_again x = refl
 
 same_seat : (a b : Seat) → seat_number a ≡ seat_number b → a ≡ b
 same_seat a b e = sym (seat_again a) ∙ ap seat_of_number e ∙ seat_again b

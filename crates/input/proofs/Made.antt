@@ -58,16 +58,12 @@ number_short n most = length-decimal-le 13 n (omega arith) (omega arith) (omega 
 pub dealer_again : (seat : Seat) → dealer_in (dealer_text seat) ≡ Some seat
 unfolding dealer_in
 dealer_again North = refl
-dealer_again East = refl
-dealer_again South = refl
-dealer_again West = refl
+dealer_again x = refl
 
 pub vulnerable_again : (vul : Vul) → vulnerable_in (vulnerable_text vul) ≡ Some vul
 unfolding vulnerable_in is_word
 vulnerable_again Neither = refl
-vulnerable_again NorthSouth = refl
-vulnerable_again EastWest = refl
-vulnerable_again Both = refl
+vulnerable_again x = refl
 
 -- ---- a line with a tag
 

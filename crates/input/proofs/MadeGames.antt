@@ -131,9 +131,7 @@ module _ (e s d : Option (Option (List ℕ))) (last : ℕ) where
     where
       one_letter : (seat : Seat) → IsTag (codes "Dealer") (dealer_text seat)
       one_letter North = record { some = omega arith; named = refl; plain = refl; fits = omega arith }
-      one_letter East = record { some = omega arith; named = refl; plain = refl; fits = omega arith }
-      one_letter South = record { some = omega arith; named = refl; plain = refl; fits = omega arith }
-      one_letter West = record { some = omega arith; named = refl; plain = refl; fits = omega arith }
+      one_letter x = record { some = omega arith; named = refl; plain = refl; fits = omega arith }
 
   vulnerable_line : (n lines : ℕ) (seat : Seat) (vul : Vul) (rest : List ℕ)
       → spells_from (plainly (in_game lines last (game_of e s d (Some n) (Some (Some seat)) None None)))
@@ -149,9 +147,7 @@ module _ (e s d : Option (Option (List ℕ))) (last : ℕ) where
     where
       one_word : (vul : Vul) → IsTag (codes "Vulnerable") (vulnerable_text vul)
       one_word Neither = record { some = omega arith; named = refl; plain = refl; fits = omega arith }
-      one_word NorthSouth = record { some = omega arith; named = refl; plain = refl; fits = omega arith }
-      one_word EastWest = record { some = omega arith; named = refl; plain = refl; fits = omega arith }
-      one_word Both = record { some = omega arith; named = refl; plain = refl; fits = omega arith }
+      one_word x = record { some = omega arith; named = refl; plain = refl; fits = omega arith }
 
   deal_line : (n lines : ℕ) (seat : Seat) (vul : Vul) (deal : List Seat) (rest : List ℕ) → IsPartition deal
       → spells_from (plainly (in_game lines last (game_of e s d (Some n) (Some (Some seat)) (Some (Some vul)) None)))

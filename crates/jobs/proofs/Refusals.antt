@@ -13,22 +13,12 @@ use Rattle.plans.specs.declared.cause.Cause.TheVariants as cause
 use Rattle.jobs.specs.declared.failure.Failure.TheVariants.{CommandLine, Plan, Label, Hand, Definitions, Condition, Question, Cells, Interrupted}
 
 pub refused_status : (e : CondError) → (status_of (failure_of e) ≡ 5) ⊎ (status_of (failure_of e) ≡ 3)
-refused_status TooLong = inr refl
-refused_status (Byte at) = inr refl
-refused_status (Word at) = inr refl
-refused_status (Number at) = inr refl
-refused_status (Syntax at) = inr refl
-refused_status TooManyParts = inr refl
 refused_status Memory = inl refl
+refused_status x = inr refl
 
 pub refused_definitions : (e : CondError) → (status_of (definitions_failure e) ≡ 5) ⊎ (status_of (definitions_failure e) ≡ 3)
-refused_definitions TooLong = inr refl
-refused_definitions (Byte at) = inr refl
-refused_definitions (Word at) = inr refl
-refused_definitions (Number at) = inr refl
-refused_definitions (Syntax at) = inr refl
-refused_definitions TooManyParts = inr refl
 refused_definitions Memory = inl refl
+refused_definitions x = inr refl
 
 -- a text that means something is refused only where memory ran out
 pub meant_status : (D : Option (List ℕ)) (o : Option (Bor (List ℕ))) (text : Bor (List ℕ)) (e : CondError) → o ≡ Some text

@@ -78,10 +78,8 @@ failed_run w s is plan meaning run = record {
 -- a run was interrupted
 pub interrupted : (w : Wish) (c : Cause) → (parts_of w).plan → (parts_of w).meaning → (parts_of w).run → IsStatusOf w (status_of (Interrupted c))
 interrupted w cause.Memory plan meaning run = no_memory w 5 refl
-interrupted w cause.Spawn plan meaning run = failed_run w 6 refl plan meaning run
 interrupted w cause.Output plan meaning run = served w 4 (inr refl) plan meaning
-interrupted w (cause.Stopped worker) plan meaning run = failed_run w 6 refl plan meaning run
-interrupted w (cause.Unclosed worker) plan meaning run = failed_run w 6 refl plan meaning run
+interrupted w x plan meaning run = failed_run w 6 refl plan meaning run
 
 -- the input failed, or a line of it is refused
 pub failed_input : (w : Wish) (s : ℕ) → s ≡ 7 → (parts_of w).plan → (parts_of w).meaning → (parts_of w).input → IsStatusOf w s

@@ -22,9 +22,7 @@ pub record SameRun (m n : Machine) : Type 0 where
 
 same_changed : (m : Machine) (e : Event) → SameRun m (changed m e)
 same_changed m (Send v) = record { count = refl; workers = refl; capacity = refl }
-same_changed m Take = record { count = refl; workers = refl; capacity = refl }
-same_changed m (Close v) = record { count = refl; workers = refl; capacity = refl }
-same_changed m Stop = record { count = refl; workers = refl; capacity = refl }
+same_changed m x = record { count = refl; workers = refl; capacity = refl }
 
 same_after : (m : Machine) (e : Event) → SameRun m (after m e)
 same_after m e =
@@ -204,10 +202,8 @@ sent_from_new w events m kept lt none =
 
 -- a closed lane stays closed
 closed_changed : (m : Machine) (e : Event) (w : ℕ) → is_closed m w ≡ true → is_closed (changed m e) w ≡ true
-closed_changed m (Send v) w h = h
-closed_changed m Take w h = h
 closed_changed m (Close v) w h = grind (arith, common_steps)
-closed_changed m Stop w h = h
+closed_changed m x w h = h
 
 closed_after : (m : Machine) (e : Event) (w : ℕ) → is_closed m w ≡ true → is_closed (after m e) w ≡ true
 closed_after m e w h =

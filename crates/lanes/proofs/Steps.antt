@@ -271,9 +271,7 @@ no_change m Stop h = same_flag m (not-false _ h)
 
 same_count : (m : Machine) (e : Event) → ((changed m e).count ≡ m.count) × ((changed m e).workers ≡ m.workers)
 same_count m (Send v) = (refl, refl)
-same_count m Take = (refl, refl)
-same_count m (Close v) = (refl, refl)
-same_count m Stop = (refl, refl)
+same_count m x = (refl, refl)
 
 pub after_count : (m : Machine) (e : Event) → ((after m e).count ≡ m.count) × ((after m e).workers ≡ m.workers)
 after_count m e =

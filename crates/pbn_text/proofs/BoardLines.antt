@@ -50,9 +50,7 @@ length-stored West Both = refl
 
 few : (sides : Vul) → get_or LENGTHS (vulnerability_number sides) 0 ≤ 45
 few Neither = omega arith
-few NorthSouth = omega arith
-few EastWest = omega arith
-few Both = omega arith
+few x = omega arith
 
 -- the same in the row of the dealer and the column of the vulnerability
 pub board_lines_at : (dealer : Seat) (sides : Vul) (row column : ℕ) → row ≡ seat_number dealer

@@ -235,9 +235,7 @@ seat_of _ = West
 seat_back : (seat : Seat) → seat_of (seat_number seat) ≡ seat
 unfolding seat_of
 seat_back North = refl
-seat_back East = refl
-seat_back South = refl
-seat_back West = refl
+seat_back x = refl
 
 seat_same : (x y : Seat) → ((q : Seat) → (seat_number x == seat_number q) ≡ (seat_number y == seat_number q)) → x ≡ y
 seat_same x y h = sym (seat_back x) ∙ ap seat_of (sym (number_same (seat_number x) (seat_number y) (h x))) ∙ seat_back y

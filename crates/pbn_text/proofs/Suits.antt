@@ -59,9 +59,7 @@ letters_are hand suit = refl
 suit_count : (hand : List Bool) (suit : Suit) → count_by (has hand suit) (range_with_len 0 13) ≡ length_of hand suit
 unfolding pack
 suit_count hand Spades = omega arith
-suit_count hand Hearts = omega arith
-suit_count hand Diamonds = omega arith
-suit_count hand Clubs = omega arith
+suit_count hand x = omega arith
 
 pub length-suit_text : (hand : List Bool) (suit : Suit) → length (suit_text hand suit) ≡ length_of hand suit
 unfolding suit_text

@@ -46,16 +46,10 @@ are_means two _ = tt
 
 on_page : (two : KeptTwo) (line : PageLine) (m : ℕ) → IsPageLine two line → (columns_of_two two).first ≤ m
     → m < (columns_of_two two).end → IsShaded two line m
-on_page two Heads m h ge below = tt
 on_page two (Cells n most) m h ge below = h.up_to m ge below
-on_page two Totals m h ge below = tt
-on_page two Means m h ge below = tt
+on_page two x m h ge below = tt
 
 pub can_shade : (two : KeptTwo) (line : Line) (m : ℕ) → IsLine two line → (columns_of_two two).first ≤ m
     → m < (columns_of_two two).end → CanShade two line m
-can_shade two (CsvRow n) m h ge below = tt
-can_shade two Header m h ge below = tt
-can_shade two (Row n) m h ge below = tt
-can_shade two All m h ge below = tt
-can_shade two Mean m h ge below = tt
 can_shade two (Page line) m h ge below = on_page two line m h ge below
+can_shade two x m h ge below = tt
