@@ -27,4 +27,4 @@ pub use conditions::{Cond, CondError, Count, Item, MOST_PARTS, Op, Question, Tre
 pub use language::LANGUAGE;
 pub use question::parse_question;
 pub use scanner::{Token, digit_run_len, letter_run_len, names_of};
-pub use words::{Kind, WORDS, measure_word};
+pub use words::{Kind, WORDS, measure_word, order_word};

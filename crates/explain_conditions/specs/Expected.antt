@@ -2,7 +2,7 @@
 use Rattle.std.specs.Prelude.{ℕ, zero, suc, Bool, true, false, not, ◌&&◌, ◌||◌, List, [], ◌∷◌, ◌++◌}
 use Rattle.std.specs.Prelude.{codes, length, map, slice_index_or, if◌then◌else◌}
 use Rattle.std.specs.List.{filter, list_all}
-use Rattle.cond_lang.specs.Cut.{measure_word}
+use Rattle.cond_lang.specs.Cut.{measure_word, order_word}
 use Rattle.cond_lang.specs.Kinds.{all_kinds}
 use Rattle.cond_lang.specs.declared.classes.Class.TheVariants.{Suit, Major, Minor, Other, Seat, NorthSouth, EastWest}
 use Rattle.cond_lang.specs.declared.classes.Neighbour.TheVariants.{Partner, Left, Right}
@@ -34,9 +34,7 @@ begins_value kind.Number = true
 begins_value (kind.Measure m) = true
 begins_value kind.Cards = true
 begins_value kind.Len = true
-begins_value kind.Longest = true
-begins_value kind.Second = true
-begins_value kind.Shortest = true
+begins_value (kind.Ordered o) = true
 begins_value _ = false
 
 -- the kinds in three parts
@@ -104,9 +102,7 @@ kind_name kind.Number = codes "a number"
 kind_name (kind.Measure m) = measure_word m
 kind_name kind.Cards = codes "cards"
 kind_name kind.Len = codes "len"
-kind_name kind.Longest = codes "longest"
-kind_name kind.Second = codes "second"
-kind_name kind.Shortest = codes "shortest"
+kind_name (kind.Ordered o) = order_word o
 kind_name kind.Plus = codes "+"
 kind_name kind.Star = codes "*"
 kind_name kind.Relation = codes "a comparison such as >="

@@ -10,7 +10,7 @@ ghost use Rattle.explain_conditions.specs.Expected.{names_that, separator, term_
 ghost use Rattle.explain_conditions.specs.internal.Kinds.{in_set, of_value};
 
 use crate::kinds::KindSet;
-use cond_lang::{Class, Kind, Neighbour, Quantifier, measure_word};
+use cond_lang::{Class, Kind, Neighbour, Quantifier, measure_word, order_word};
 use sinks::put_shown;
 use std::alloc::{AllocError, Global};
 
@@ -51,7 +51,7 @@ fn begins_value(kind: Kind) -> bool
 {
     match kind {
         Kind::Number | Kind::Measure(_) | Kind::Cards => true,
-        Kind::Len | Kind::Longest | Kind::Second | Kind::Shortest => true,
+        Kind::Len | Kind::Ordered(_) => true,
         _ => false,
     }
 }
@@ -275,9 +275,7 @@ fn kind_name(kind: Kind) -> &'static str
         Kind::Measure(measure) => measure_word(measure),
         Kind::Cards => "cards",
         Kind::Len => "len",
-        Kind::Longest => "longest",
-        Kind::Second => "second",
-        Kind::Shortest => "shortest",
+        Kind::Ordered(order) => order_word(order),
         Kind::Plus => "+",
         Kind::Star => "*",
         Kind::Relation => "a comparison such as >=",

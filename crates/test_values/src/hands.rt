@@ -2,7 +2,7 @@
 
 use crate::support::{deal_of, same};
 use crate::written::{IN_ORDER, WORKED};
-use cards::{Hand, Honours, Measure, Seat, Suit};
+use cards::{Hand, Honours, Measure, Order, Seat, Suit};
 use std::process::Abort;
 
 /// Candidates 0 and 1 of seed 0.
@@ -88,7 +88,7 @@ fn forty_points(rt: HostRuntime) {
 
 /// The hand has what is counted.
 fn hand_has(rt: &impl Abort, hand: &Hand, (points, controls, losers, shape): Counts) {
-    same(rt, (hand.points(), hand.losers()), (points, losers));
+    same(rt, hand.points(), points);
     let totals = MEASURES.map(|measure| hand.total(measure));
     same(rt, totals, [points, controls, losers]);
     same(rt, hand.shape(), shape);
@@ -112,9 +112,14 @@ fn shapes_of_hands(rt: HostRuntime) {
         let deal = deal_of(&rt, hands);
         same(&rt, SEATS.map(|seat| deal.hand(seat).balanced()), *balanced);
         let (north, south) = (deal.hand(Seat::North), deal.hand(Seat::South));
-        same(&rt, (north.longest(), north.shortest()), *of_north);
-        same(&rt, (south.longest(), south.shortest()), *of_south);
+        same(&rt, ends_of(&north), *of_north);
+        same(&rt, ends_of(&south), *of_south);
     }
+}
+
+/// The longest and the shortest suit.
+fn ends_of(hand: &Hand) -> (u8, u8) {
+    (hand.ordered(Order::Longest), hand.ordered(Order::Shortest))
 }
 
 /// Of the worked deal a seat, a suit, its length, and its points, controls and losers.

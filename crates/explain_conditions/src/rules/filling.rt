@@ -21,7 +21,7 @@
 //! | `%wN` | the word of the call that has the fault |
 //! | `%eN` | what comes after the word `%bN` and a seat; `%e0` of the call |
 //! | `%hN` | the brackets after the name `%bN`; `%h0` of the call |
-//! | `%l0` | the words of all measures, each with a comma and a blank after it |
+//! | `%l0`, `%l1` | the words of all measures, of all orders, each with a comma and a blank after it |
 
 use crate::rules::amounts::{Amount, amount_at, counted_at, ordered};
 use crate::rules::hint::Said;
@@ -203,7 +203,7 @@ fn put(out: &mut Vec<u8>, parts: &Parts, kind: u8, n: usize) -> Result<bool, All
         return put_value(out, parts, back);
     }
     let done = match kind {
-        b'l' => put_measures(out),
+        b'l' => put_words(out, n),
         b'e' if n == 0 => put_after_seat(out, parts, parts.call()),
         b'e' => put_after_seat(out, parts, parts.at(back)),
         b'x' if is_one_of(parts.at(next), ENDS) => {
@@ -244,14 +244,23 @@ fn text_of<'t>(parts: &'t Parts, kind: u8, back: usize, next: usize) -> &'t [u8]
     }
 }
 
-/// Appends the words of all measures, each with a comma and a blank after it.
-fn put_measures(out: &mut Vec<u8>) -> Result<(), AllocError> {
+/// Appends the words of all measures, or of all orders, each with a comma and a blank after it.
+fn put_words(out: &mut Vec<u8>, n: usize) -> Result<(), AllocError> {
     for (word, token) in WORDS.iter() {
-        if matches!(token, Token::Measure(_)) {
+        if is_in_table(token, n) {
             put_all(out, &[word.as_bytes(), b", "])?;
         }
     }
     Ok(())
+}
+
+/// Whether the token is a measure, or an order.
+fn is_in_table(token: &Token, n: usize) -> bool {
+    match token {
+        Token::Measure(_) => n == 0,
+        Token::Ordered(_) => n == 1,
+        _ => false,
+    }
 }
 
 /// Appends what comes after the word and a seat. A suit is that of the brackets of any or every.

@@ -5,7 +5,7 @@ pub(crate) const STARTS: &str = " ( and or not";
 
 pub(crate) const ENDS: &str = " ) and or";
 
-static LISTS: [(&str, &str); 21] = [
+static LISTS: [(&str, &str); 20] = [
     ("STARTS", STARTS),
     ("ENDS", ENDS),
     // The suits, and the classes that stand for one.
@@ -13,8 +13,6 @@ static LISTS: [(&str, &str); 21] = [
         "SUITS",
         "spades hearts diamonds clubs suit major minor other",
     ),
-    // Words that count something, and not in one suit alone.
-    ("OTHERS", "cards longest second shortest"),
     // How a person joins two suits of which one is meant, two that are both meant, and either.
     ("OR", "or / | ||"),
     ("AND", "and & &&"),

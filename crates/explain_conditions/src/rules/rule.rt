@@ -36,19 +36,22 @@
 //! | `Amount`, `Counted` | an amount, as `15-17`, or one with a word that says of what |
 //!
 //! No text means no part: `|and|or` is the end, or one of these. A name in capitals stands for a
-//! list of texts (`lists`); `MEASURES`, which may be one of several texts, for the language's own.
+//! list of texts (`lists`); `MEASURES` and `ORDERS`, which may be one of several texts, for the
+//! language's own.
 
 use crate::rules::amounts::{amount_at, counted_at};
 use crate::rules::lists::listed;
 use crate::rules::parts::Parts;
 use crate::rules::words::{
-    are_ranks, is, is_call, is_count, is_name, is_number, is_relation, is_seat, is_suit, is_word,
-    measure_word, number, token_of,
+    are_ranks, is, is_call, is_count, is_name, is_number, is_order, is_relation, is_seat, is_suit,
+    is_word, measure_word, number, token_of,
 };
 use cond_lang::{Class, Kind};
 
-/// The text of a pattern that stands for the words of all measures.
+/// The texts of a pattern that stand for the words of all measures and of all orders.
 const MEASURES: &str = "MEASURES";
+
+const ORDERS: &str = "ORDERS";
 
 /// What a word of a pattern wants, but for a text that stands there.
 #[derive(Clone, Copy)]
@@ -197,11 +200,20 @@ fn is_wanted(parts: &Parts, i: usize, word: &str) -> bool {
 fn is_among(part: &[u8], texts: &str) -> bool {
     let (texts, sign) = listed(texts);
     for text in texts.split(sign) {
-        if is(part, text) || text == MEASURES && measure_word(part).is_some() {
+        if is_text(part, text) {
             return true;
         }
     }
     false
+}
+
+/// Whether the part is the text of a pattern, or a word for which that stands.
+fn is_text(part: &[u8], text: &str) -> bool {
+    match text {
+        MEASURES => measure_word(part).is_some(),
+        ORDERS => is_order(part),
+        _ => is(part, text),
+    }
 }
 
 /// Whether the part begins with one of the texts of a pattern.

@@ -37,18 +37,16 @@ pub(crate) fn measure_word(part: &[u8]) -> Option<&'static str> {
     None
 }
 
+/// Whether the part is the word of an order, of which a hand has a length.
+pub(crate) fn is_order(part: &[u8]) -> bool {
+    matches!(token_of(part), Some(Token::Ordered(_)))
+}
+
 /// Whether the part is a word that begins a value.
 pub(crate) fn is_count(part: &[u8]) -> bool {
     matches!(
         token_of(part),
-        Some(
-            Token::Measure(_)
-                | Token::Cards
-                | Token::Len
-                | Token::Longest
-                | Token::Second
-                | Token::Shortest
-        )
+        Some(Token::Measure(_) | Token::Cards | Token::Len | Token::Ordered(_))
     )
 }
 

@@ -1,11 +1,14 @@
 //! What may come where a text goes wrong: worked by an independent program, each set once.
 
 use super::*;
-use cards::Measure;
+use cards::{Measure, Order};
 use cond_lang::{Beginning, Class, Kind, Neighbour, Quantifier, names_of};
 
 /// Any measure: all of them are in the same places.
 const MEASURE: Kind = Kind::Measure(Measure::Hcp);
+
+/// Any order, likewise.
+const ORDER: Kind = Kind::Ordered(Order::Longest);
 
 const SUIT: Kind = Kind::Class(Class::Suit);
 
@@ -28,7 +31,7 @@ const LEFT: Kind = Kind::Neighbour(Neighbour::Left);
 const RIGHT: Kind = Kind::Neighbour(Neighbour::Right);
 
 /// All that begins a condition.
-const CONDITION: [Kind; 15] = [
+const CONDITION: [Kind; 13] = [
     Kind::Not,
     Kind::Open,
     Kind::Balanced,
@@ -41,13 +44,11 @@ const CONDITION: [Kind; 15] = [
     MEASURE,
     Kind::Cards,
     Kind::Len,
-    Kind::Longest,
-    Kind::Second,
-    Kind::Shortest,
+    ORDER,
 ];
 
 /// All that begins a text.
-const TEXT: [Kind; 16] = [
+const TEXT: [Kind; 14] = [
     Kind::Let,
     Kind::Not,
     Kind::Open,
@@ -61,13 +62,11 @@ const TEXT: [Kind; 16] = [
     MEASURE,
     Kind::Cards,
     Kind::Len,
-    Kind::Longest,
-    Kind::Second,
-    Kind::Shortest,
+    ORDER,
 ];
 
 /// The same where each class is bound.
-const INSIDE_ALL: [Kind; 13] = [
+const INSIDE_ALL: [Kind; 11] = [
     Kind::Not,
     Kind::Open,
     Kind::Balanced,
@@ -78,31 +77,14 @@ const INSIDE_ALL: [Kind; 13] = [
     MEASURE,
     Kind::Cards,
     Kind::Len,
-    Kind::Longest,
-    Kind::Second,
-    Kind::Shortest,
+    ORDER,
 ];
 
 /// All that begins a value.
-const VALUE: [Kind; 7] = [
-    Kind::Number,
-    MEASURE,
-    Kind::Cards,
-    Kind::Len,
-    Kind::Longest,
-    Kind::Second,
-    Kind::Shortest,
-];
+const VALUE: [Kind; 5] = [Kind::Number, MEASURE, Kind::Cards, Kind::Len, ORDER];
 
 /// All that is counted in a hand.
-const COUNTS: [Kind; 6] = [
-    MEASURE,
-    Kind::Cards,
-    Kind::Len,
-    Kind::Longest,
-    Kind::Second,
-    Kind::Shortest,
-];
+const COUNTS: [Kind; 4] = [MEASURE, Kind::Cards, Kind::Len, ORDER];
 
 /// Texts with a syntax fault, or whole ones, and what may come there.
 const EXPECTED: [(&str, &[Kind]); 50] = [
@@ -281,6 +263,7 @@ pub fn lists(kinds: &[Kind], kind: Kind) -> bool {
 fn listed(kind: Kind) -> Kind {
     match kind {
         Kind::Measure(_) => MEASURE,
+        Kind::Ordered(_) => ORDER,
         other => other,
     }
 }

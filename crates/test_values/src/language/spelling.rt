@@ -1,7 +1,7 @@
 //! Trees as text: each variant by its name, with its fields in brackets.
 
 use cards::{Honours, Seat, Suit};
-use cond_lang::{Count, Item, Op, Tree, Value, measure_word};
+use cond_lang::{Count, Item, Op, Tree, Value, measure_word, order_word};
 use std::alloc::{AllocError, Global};
 
 /// The tree as text.
@@ -62,9 +62,11 @@ fn count_text(alloc: Global, count: &Count) -> Result<String, AllocError> {
             )
         }
         Count::Length(seat, suit) => call(alloc, "Length", &[seat_text(*seat), suit_text(*suit)]),
-        Count::Longest(seat) => call(alloc, "Longest", &[seat_text(*seat)]),
-        Count::Second(seat) => call(alloc, "Second", &[seat_text(*seat)]),
-        Count::Shortest(seat) => call(alloc, "Shortest", &[seat_text(*seat)]),
+        Count::Ordered(order, seat) => call(
+            alloc,
+            "Ordered",
+            &[order_word(*order), seat_text(*seat)],
+        ),
     }
 }
 

@@ -113,7 +113,8 @@ const TREES: [(&str, &str); 49] = [
     ),
     (
         "longest(south)+1>shortest(north)",
-        "Compare { left: Sum(Longest(South), Number(1)), op: More, right: Shortest(North) }",
+        "Compare { left: Sum(Ordered(longest, South), Number(1)), op: More, \
+        right: Ordered(shortest, North) }",
     ),
     (
         "cards(north,spades,kq)>=1",
@@ -142,7 +143,7 @@ const TREES: [(&str, &str); 49] = [
     ("stops(north,hearts)", "Stops(North, Hearts)"),
     (
         "second(east)==5",
-        "Compare { left: Second(East), op: Equal, right: Number(5) }",
+        "Compare { left: Ordered(second, East), op: Equal, right: Number(5) }",
     ),
     (
         "any major (stops(north,major))",

@@ -32,7 +32,7 @@ pub(crate) const RULES: &str = "
         say what in brackets, as in %b2 %b1 (len(north,%b1)>=5)
     Can:Open Cannot:Not any|every seat|ns|ew ^ => \
         say what in brackets, as in %b2 %b1 (hcp(%b1)>=12)
-    longest|second|shortest ^ suit ( Seat ) => write \"%b1(%n2)\"
+    ORDERS ^ suit ( Seat ) => write \"%b1(%n2)\"
     any|every suit|major|minor ( ^ Seat ) => for its length write: %b3 %b2 (len(%n0,%b2)%a2)
     NotInCall ^ suit|major|minor ( Seat ) <|<= => for each %n0 write: every %n0 (len(%n2,%n0)%a4)
     NotInCall ^ suit|major|minor ( Seat ) => for some %n0 write: any %n0 (len(%n2,%n0)%a4)

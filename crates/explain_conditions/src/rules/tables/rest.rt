@@ -2,7 +2,7 @@
 
 pub(crate) const RULES: &str = "
     NotInCall ^ Word ( => \
-        a hand has %l0cards, len, longest, second, shortest, balanced, shape, pattern, stops
+        a hand has %l0cards, len, %l1balanced, shape, pattern, stops
     ^ Capital => conditions are written in small letters
     NotInCall STARTS ^ Word => deals conditions has all words, with examples
     ^ Zeros => without leading zeros write \"%z0\"

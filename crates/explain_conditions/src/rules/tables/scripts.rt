@@ -13,7 +13,7 @@ pub(crate) const RULES: &str = "
         write the condition alone: --format says how boards are written
     Nothing ^ accept|reject|deal => write the condition alone: it says which deals are kept
 
-    ^ [ MEASURES|longest|second|shortest|balanced Seat ] => write \"%n1(%n2)\"
+    ^ [ MEASURES|ORDERS|balanced Seat ] => write \"%n1(%n2)\"
     ^ [ Suit Seat ] => for a suit's length write \"len(%n2,%n1)\"
 
     NotInCall ^ max|maximum|min|minimum ( => \

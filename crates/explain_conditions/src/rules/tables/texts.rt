@@ -13,7 +13,7 @@ pub(crate) const RULES: &str = "
     Nothing ^ help|usage => all that a condition can say: deals conditions
     Nothing x ^ =|: => \
         give a test a name before the condition, as in let strong is (hcp(north)>=15)
-    Nothing MEASURES|longest|second|shortest ^ Nothing => \
+    Nothing MEASURES|ORDERS ^ Nothing => \
         say whose, in quotes, as in '%b1(north)': the shell takes ( and > for itself
     Nothing ^ condition|where|if Nothing => write the condition alone, as in hcp(north)>=15
     Nothing ^ condition|where|if => leave out \"%n0\", and write the condition alone
