@@ -1,7 +1,7 @@
--- What else is counted in a hand: losers, measures, honours, its lengths in order, and the suits that
--- it stops.
-use Rattle.std.specs.Prelude.{ℕ, ◌+◌, ◌*◌, nat_le, min, not, ◌&&◌, ◌||◌, Bool, false, List, [], ◌∷◌, count_by}
-use Rattle.std.specs.Prelude.{slice_index_or, unwrap_or, option_map}
+-- What else is counted in a hand: losers, measures, honours, its lengths in order, and the suits
+-- that it stops.
+use Rattle.std.specs.Prelude.{ℕ, ◌+◌, ◌*◌, nat_le, min, not, ◌&&◌, ◌||◌, Bool, false, List, []}
+use Rattle.std.specs.Prelude.{◌∷◌, count_by, option_map, slice_index_or, unwrap_or}
 use Rattle.std.specs.List.{range_with_len}
 use Rattle.cards.specs.declared.suit.Suit.{Suit}
 use Rattle.cards.specs.declared.suit.Suit.TheVariants.{Spades, Hearts, Diamonds, Clubs}

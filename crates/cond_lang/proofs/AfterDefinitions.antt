@@ -1,6 +1,6 @@
 -- Definitions that are accepted have no fault, whatever text is read after them.
-use Rattle.std.proofs.Common.{◌≡◌, ℕ, zero, suc, ◌+◌, ◌<◌, ◌≤◌, ◌⊎◌, Bool, false, List, [], ◌∷◌, ◌++◌, length, take}
-use Rattle.std.proofs.Common.{drop, map, slice_get, Ok, Err, Some, None, refl, sym, ap, ◌∙◌, subst, inl, inr, arith}
+use Rattle.std.proofs.Common.{◌≡◌, ℕ, zero, suc, ◌+◌, ◌<◌, ◌≤◌, Bool, false, List, [], ◌∷◌, ◌++◌, length, take}
+use Rattle.std.proofs.Common.{drop, Ok, Err, refl, sym, ap, ◌∙◌, subst, inl, inr, arith}
 use Rattle.std.proofs.Common.{append_assoc, length-append, take-append-drop}
 use Rattle.std.specs.List.{AllByRecursion}
 use Rattle.std.proofs.lemmas.List.Sums.{sum_by-cons}
@@ -9,9 +9,9 @@ use Rattle.std.proofs.lemmas.Bool.{cases_lt}
 use Rattle.conditions.specs.declared.error.CondError.{CondError}
 use Rattle.conditions.specs.declared.error.CondError.TheVariants.{TooLong, Byte, Word, Number as Digits, Syntax, TooManyParts, Memory}
 use Rattle.conditions.specs.declared.tree.Op.TheVariants.{Equal}
-use Rattle.conditions.specs.Form.{Form, compare, number}
+use Rattle.conditions.specs.Form.{compare, number}
 use Rattle.conditions.specs.Limits.{parts_of}
-use Rattle.conditions.specs.Questions.{Question, asks_condition, parts_asked}
+use Rattle.conditions.specs.Questions.{asks_condition, parts_asked}
 use Rattle.cond_lang.specs.declared.scanner.Placed.{Placed}
 use Rattle.cond_lang.specs.declared.scanner.Token.{Token}
 use Rattle.cond_lang.specs.declared.scanner.Token.TheVariants.{Number, Relation}
@@ -28,7 +28,7 @@ use Rattle.cond_lang.specs.Grammar.{Meanings, both, unit, test, comparison, atom
 use Rattle.cond_lang.specs.Text.{kinds}
 use Rattle.cond_lang.proofs.Cuts.{one_cut, some_cut}
 use Rattle.cond_lang.proofs.Tables.{at_entry}
-use Rattle.cond_lang.proofs.Told.{Told, and_then_more, with_piece, told_from, tokens_told, fault_told}
+use Rattle.cond_lang.proofs.Told.{Told, and_then_more, told_from, tokens_told, fault_told}
 
 -- ---- pieces before a new line are what they are at the end of a text
 

@@ -12,7 +12,7 @@ use Rattle.cond_lang.specs.declared.classes.Params.TheVariants.{Plain, OfSeat, O
 use Rattle.conditions.specs.declared.tree.Item.{Item}
 use Rattle.conditions.specs.declared.tree.Item.TheVariants.{Length}
 use Rattle.cond_lang.specs.declared.scanner.Token.{Token}
-use Rattle.cond_lang.specs.declared.scanner.Token.TheVariants.{X, Suit, Number, Open}
+use Rattle.cond_lang.specs.declared.scanner.Token.TheVariants.{Suit, Number, Open}
 use Rattle.cond_lang.specs.declared.scanner.Token.TheVariants.{Close, Comma, Dash, Name}
 use Rattle.conditions.specs.Form.{number}
 use Rattle.cond_lang.specs.Classes.{Names, by_suit, choice}
@@ -20,7 +20,7 @@ use Rattle.cond_lang.specs.Grammar.{Meaning, Meanings, condition, value, SpellsA
 use Rattle.cond_lang.specs.Grammar.{both_args, named_value, SpellsSeat}
 use Rattle.cond_lang.specs.Grammar.{SpellsAtom, a_number}
 use Rattle.cond_lang.specs.Grammar.{item_token, four}
-use Rattle.cond_lang.specs.internal.Reading.{got, after, opened, comma, dash, seat}
+use Rattle.cond_lang.specs.internal.Reading.{got, after, opened, comma, dash}
 use Rattle.cond_lang.specs.internal.Reading.{suit, item}
 use Rattle.cond_lang.specs.internal.Reading.{closing}
 use Rattle.cond_lang.specs.internal.Reading.{number_or_count, seat_in_brackets}

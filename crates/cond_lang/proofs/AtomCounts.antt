@@ -1,6 +1,6 @@
 -- Each value of a tree has at most as many atoms as the tree has parts.
 use Rattle.std.proofs.Common.{ℕ, ◌≤◌, arith}
-use Rattle.conditions.specs.Form.{Form, any_of, all_of, negation, compare, within, balanced, shape, pattern, loose_shape, loose_pattern, stops}
+use Rattle.conditions.specs.Form.{Form, any_of, all_of, negation, compare, within}
 use Rattle.conditions.specs.Limits.{HasAtMostAtoms, parts_of}
 
 pub few_atoms : (n : ℕ) (t : Form) → parts_of t ≤ n → HasAtMostAtoms n t
@@ -9,9 +9,4 @@ few_atoms n (all_of a b) h = (few_atoms n a (omega (arith, h)), few_atoms n b (o
 few_atoms n (negation a) h = few_atoms n a h
 few_atoms n (compare a o b) h = (omega (arith, h), omega (arith, h))
 few_atoms n (within a k l) h = h
-few_atoms n (balanced q) h = tt
-few_atoms n (shape q ns) h = tt
-few_atoms n (pattern q ns) h = tt
-few_atoms n (loose_shape q items) h = tt
-few_atoms n (loose_pattern q items) h = tt
-few_atoms n (stops q s) h = tt
+few_atoms n x h = tt

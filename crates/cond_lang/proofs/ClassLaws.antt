@@ -4,7 +4,7 @@ use Rattle.std.specs.Prelude.{◌↔◌, fold}
 use Rattle.std.specs.List.{list_any, list_all}
 use Rattle.std.proofs.lemmas.List.{append_cancel_right}
 use Rattle.cards.specs.declared.seat.Seat.{Seat as ASeat}
-use Rattle.cards.specs.declared.seat.Seat.TheVariants.{North, East, South, West}
+use Rattle.cards.specs.declared.seat.Seat.TheVariants.{North, East, South}
 use Rattle.cards.specs.declared.suit.Suit.TheVariants.{Spades, Hearts, Diamonds}
 use Rattle.cond_lang.specs.declared.classes.Bound.{Bound}
 use Rattle.cond_lang.specs.declared.classes.Choice.{Choice}
@@ -20,8 +20,8 @@ use Rattle.conditions.specs.Form.{Amount, Form, any_of, all_of, negation}
 use Rattle.conditions.specs.Meaning.{holds}
 use Rattle.cond_lang.specs.Classes.{bind, can_bind, choice, members, seat_beside}
 use Rattle.cond_lang.specs.Grammar.{Meanings, named_value, named_condition, a_count, multiple, SpellsCount}
-use Rattle.cond_lang.specs.Grammar.{SpellsAtom, SpellsValue, atom, plus, a_number, count, measure, measure_in, len}
-use Rattle.cond_lang.specs.Grammar.{cards, cards_in, ordered_suit, SpellsCond, both, unit}
+use Rattle.cond_lang.specs.Grammar.{SpellsAtom, SpellsValue, atom, plus, a_number, count, measure}
+use Rattle.cond_lang.specs.Grammar.{SpellsCond, both, unit}
 use Rattle.cond_lang.specs.Grammar.{SpellsUnit, not as negated, brackets, quantified, test, SpellsEach, none}
 use Rattle.cond_lang.specs.Grammar.{one_more, joined, SpellsTest, comparison, in_range, of_hand, is_balanced}
 use Rattle.cond_lang.specs.Grammar.{has_shape, has_pattern, has_stopper}
@@ -119,9 +119,7 @@ north_or_south N E T t = any_of_two NorthSouth (choice Spades North) (choice Dia
 -- the partner of a seat's partner is the seat
 pub across_twice : (q : ASeat) → seat_beside Partner (seat_beside Partner q) ≡ q
 across_twice North = refl
-across_twice East = refl
-across_twice South = refl
-across_twice West = refl
+across_twice x = refl
 
 -- ---- what it means
 

@@ -5,7 +5,7 @@ use Rattle.std.proofs.lemmas.Bool.{cases_eq}
 use Rattle.std.proofs.lemmas.Option.{slice_get-get_or}
 use Rattle.cards.specs.Pack.{suit_number, seat_number}
 use Rattle.cards.specs.declared.seat.Seat.{Seat}
-use Rattle.cards.specs.declared.seat.Seat.TheVariants.{North, East, South, West}
+use Rattle.cards.specs.declared.seat.Seat.TheVariants.{North}
 use Rattle.cards.specs.declared.suit.Suit.{Suit}
 use Rattle.cards.specs.declared.suit.Suit.TheVariants.{Spades, Hearts, Diamonds, Clubs}
 use Rattle.cond_lang.specs.declared.classes.Choice.{Choice}
@@ -25,33 +25,18 @@ pub record CountedBelow (N : Meanings) (p : Params) (is_value : Bool) (S : List 
 
 at_its_place : (s : Suit) (q : Seat) → argument_at (place_of (choice s q)) ≡ choice s q
 at_its_place Spades North = refl
-at_its_place Spades East = refl
-at_its_place Spades South = refl
-at_its_place Spades West = refl
 at_its_place Hearts North = refl
-at_its_place Hearts East = refl
-at_its_place Hearts South = refl
-at_its_place Hearts West = refl
 at_its_place Diamonds North = refl
-at_its_place Diamonds East = refl
-at_its_place Diamonds South = refl
-at_its_place Diamonds West = refl
 at_its_place Clubs North = refl
-at_its_place Clubs East = refl
-at_its_place Clubs South = refl
-at_its_place Clubs West = refl
+at_its_place s q = refl
 
 suit_below : (s : Suit) → suit_number s < 4
 suit_below Spades = omega arith
-suit_below Hearts = omega arith
-suit_below Diamonds = omega arith
-suit_below Clubs = omega arith
+suit_below x = omega arith
 
 seat_below : (q : Seat) → seat_number q < 4
 seat_below North = omega arith
-seat_below East = omega arith
-seat_below South = omega arith
-seat_below West = omega arith
+seat_below x = omega arith
 
 pub place_below : (x : Choice) → place_of x < 16
 place_below x = omega (arith, suit_below x.suit, seat_below x.seat)

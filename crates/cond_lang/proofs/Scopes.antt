@@ -32,76 +32,27 @@ suits_alike f NorthSouth = refl
 suits_alike f EastWest = refl
 
 pub seats_alike : {E F : Bound} → SameScope E F → (c : AClass) → is_some (seat_bound_to E c) ≡ is_some (seat_bound_to F c)
-seats_alike f AnySuit = refl
-seats_alike f Major = refl
-seats_alike f Minor = refl
-seats_alike f Other = refl
 seats_alike f AnySeat = f AnySeat
 seats_alike f NorthSouth = f NorthSouth
 seats_alike f EastWest = f EastWest
+seats_alike f x = refl
 
 pub same_scope : (E : Bound) → SameScope E E
 same_scope E c = refl
 
 pub bind_same : {E F : Bound} → SameScope E F → (c : AClass) (s t : Choice) → SameScope (bind E c s) (bind F c t)
 bind_same f AnySuit s t AnySuit = refl
-bind_same f AnySuit s t Major = f Major
-bind_same f AnySuit s t Minor = f Minor
-bind_same f AnySuit s t Other = f Other
-bind_same f AnySuit s t AnySeat = f AnySeat
-bind_same f AnySuit s t NorthSouth = f NorthSouth
-bind_same f AnySuit s t EastWest = f EastWest
-bind_same f Major s t AnySuit = f AnySuit
 bind_same f Major s t Major = refl
-bind_same f Major s t Minor = f Minor
-bind_same f Major s t Other = f Other
-bind_same f Major s t AnySeat = f AnySeat
-bind_same f Major s t NorthSouth = f NorthSouth
-bind_same f Major s t EastWest = f EastWest
-bind_same f Minor s t AnySuit = f AnySuit
-bind_same f Minor s t Major = f Major
 bind_same f Minor s t Minor = refl
-bind_same f Minor s t Other = f Other
-bind_same f Minor s t AnySeat = f AnySeat
-bind_same f Minor s t NorthSouth = f NorthSouth
-bind_same f Minor s t EastWest = f EastWest
-bind_same f Other s t AnySuit = f AnySuit
-bind_same f Other s t Major = f Major
-bind_same f Other s t Minor = f Minor
 bind_same f Other s t Other = refl
-bind_same f Other s t AnySeat = f AnySeat
-bind_same f Other s t NorthSouth = f NorthSouth
-bind_same f Other s t EastWest = f EastWest
-bind_same f AnySeat s t AnySuit = f AnySuit
-bind_same f AnySeat s t Major = f Major
-bind_same f AnySeat s t Minor = f Minor
-bind_same f AnySeat s t Other = f Other
 bind_same f AnySeat s t AnySeat = refl
-bind_same f AnySeat s t NorthSouth = f NorthSouth
-bind_same f AnySeat s t EastWest = f EastWest
-bind_same f NorthSouth s t AnySuit = f AnySuit
-bind_same f NorthSouth s t Major = f Major
-bind_same f NorthSouth s t Minor = f Minor
-bind_same f NorthSouth s t Other = f Other
-bind_same f NorthSouth s t AnySeat = f AnySeat
 bind_same f NorthSouth s t NorthSouth = refl
-bind_same f NorthSouth s t EastWest = f EastWest
-bind_same f EastWest s t AnySuit = f AnySuit
-bind_same f EastWest s t Major = f Major
-bind_same f EastWest s t Minor = f Minor
-bind_same f EastWest s t Other = f Other
-bind_same f EastWest s t AnySeat = f AnySeat
-bind_same f EastWest s t NorthSouth = f NorthSouth
 bind_same f EastWest s t EastWest = refl
+bind_same f c s t d = f d
 
 pub can_bind_same : {E F : Bound} → SameScope E F → (c : AClass) → can_bind E c ≡ can_bind F c
-can_bind_same f AnySuit = ap not (f AnySuit)
-can_bind_same f Major = ap not (f Major)
-can_bind_same f Minor = ap not (f Minor)
 can_bind_same f Other = rw (f Other, f AnySuit, f Major, f Minor) refl
-can_bind_same f AnySeat = ap not (f AnySeat)
-can_bind_same f NorthSouth = ap not (f NorthSouth)
-can_bind_same f EastWest = ap not (f EastWest)
+can_bind_same f c = ap not (f c)
 
 pub can_quantify_same : {E F : Bound} → SameScope E F → can_quantify E ≡ can_quantify F
 can_quantify_same {E} {F} f =

@@ -4,7 +4,7 @@ use Rattle.cond_lang.specs.declared.scanner.Placed.{Placed}
 use Rattle.cond_lang.specs.declared.scanner.Piece.{Piece}
 use Rattle.cond_lang.specs.declared.scanner.Piece.TheVariants.{Separator, Token as TokenPiece, StrayByte, UnknownWord, LongNumber}
 use Rattle.conditions.specs.declared.error.CondError.{CondError}
-use Rattle.conditions.specs.declared.error.CondError.TheVariants.{TooLong, Byte, Word, Number, Syntax, TooManyParts, Memory}
+use Rattle.conditions.specs.declared.error.CondError.TheVariants.{TooLong, Byte, Word, Number, Memory}
 use Rattle.conditions.specs.Form.{Form}
 use Rattle.cond_lang.specs.Definitions.{Spells}
 use Rattle.cond_lang.specs.Text.{kinds}
@@ -64,13 +64,11 @@ pub fault_of_piece : (text : List ℕ) (e : CondError) → HasFault text e → I
 fault_of_piece text e h = of_piece h.faulty.1 (bytes_of h.before) e h.found
 
 due : (text : List ℕ) (e : CondError) → HasFault text e → IsOfPiece e → IsDue text e
-due text TooLong h k = absurd k
 due text (Byte at) h k = h
 due text (Word at) h k = h
 due text (Number at) h k = h
-due text (Syntax at) h k = absurd k
-due text TooManyParts h k = absurd k
 due text Memory h k = tt
+due text x h k = absurd k
 
 -- A piece's fault is a reason to refuse the text.
 pub fault_due : (text : List ℕ) (e : CondError) → HasFault text e → IsDue text e

@@ -56,9 +56,7 @@ sound_piece :
     → with_piece k at r ≡ Ok (cons_option (token_at at k) ts)
 sound_piece Separator at r ts s e = e
 sound_piece (TokenPiece t) at r ts s e = ap (and_then_more (record { token = t; at = at })) e
-sound_piece StrayByte at r ts s e = let h = s 0 in absurd (cc)
-sound_piece UnknownWord at r ts s e = let h = s 0 in absurd (cc)
-sound_piece LongNumber at r ts s e = let h = s 0 in absurd (cc)
+sound_piece x at r ts s e = let h = s 0 in absurd (cc)
 
 sound_told : (at : ℕ) (ps : Pieces) → AllByRecursion IsSound ps → told_from at ps ≡ Ok (tokens_from at ps)
 sound_told at [] a = refl
@@ -160,9 +158,7 @@ faulty_piece LongNumber at r e h = let f : Number at ≡ e = cc in ap (λ e. Err
 passed_piece : (k : Piece) (at : ℕ) (r : Told) (e : CondError) → ((n : ℕ) → fault_at n k ≡ None) → r ≡ Err e → with_piece k at r ≡ Err e
 passed_piece Separator at r e s i = i
 passed_piece (TokenPiece t) at r e s i = ap (and_then_more (record { token = t; at = at })) i
-passed_piece StrayByte at r e s i = let h = s 0 in absurd (cc)
-passed_piece UnknownWord at r e s i = let h = s 0 in absurd (cc)
-passed_piece LongNumber at r e s i = let h = s 0 in absurd (cc)
+passed_piece x at r e s i = let h = s 0 in absurd (cc)
 
 fault_told_from :
     (at : ℕ) (before : Pieces) (faulty : List ℕ × Piece) (after : Pieces) (e : CondError)

@@ -30,23 +30,13 @@ abbrev Untouches : ℕ → Type 0
 Untouches s = (s ≡ 2) ⊎ (s ≡ 3) ⊎ (s ≡ 5)
 
 untouched_by : (f : Failure) → Untouches (status_of f) → is_untouched f ≡ true
-untouched_by (CommandLine text) h = refl
-untouched_by (Plan error) h = refl
-untouched_by (Label label) h = refl
-untouched_by (Hand seat) h = refl
-untouched_by (Definitions error) h = refl
-untouched_by (Condition error) h = refl
-untouched_by (Question name error) h = refl
-untouched_by (Cells name) h = refl
 untouched_by (Interrupted cause.Output) h = elim h [ inl a ↦ cc | inr (inl a) ↦ cc | inr (inr a) ↦ cc ]
-untouched_by (Interrupted cause.Memory) h = refl
-untouched_by (Interrupted cause.Spawn) h = refl
 untouched_by (Interrupted (cause.Stopped worker)) h = elim h [ inl a ↦ cc | inr (inl a) ↦ cc | inr (inr a) ↦ cc ]
 untouched_by (Interrupted (cause.Unclosed worker)) h = elim h [ inl a ↦ cc | inr (inl a) ↦ cc | inr (inr a) ↦ cc ]
 untouched_by (Line line) h = elim h [ inl a ↦ cc | inr (inl a) ↦ cc | inr (inr a) ↦ cc ]
 untouched_by (Record line) h = elim h [ inl a ↦ cc | inr (inl a) ↦ cc | inr (inr a) ↦ cc ]
 untouched_by Input h = elim h [ inl a ↦ cc | inr (inl a) ↦ cc | inr (inr a) ↦ cc ]
-untouched_by EndOfInput h = refl
+untouched_by f h = refl
 
 faults_by_status : (r : Result (Option Report) Failure) → faults_in r ≡ (if status_in r == 4 then 1 else 0)
 faults_by_status (Ok report) = refl
@@ -99,24 +89,9 @@ output_counted r s old new is h = subst (λ (n : ℕ). new ≡ old + (if n == 4 
 
 pub input_kept : (r : Result (Option Report) Failure) (s old new : ℕ) → s ≡ status_in r → CountsInput r old new
     → (s ≡ 4 → ⊥) → (s ≡ 7 → ⊥) → new ≡ old
-input_kept (Ok report) s old new is h four seven = h
-input_kept (Err (CommandLine text)) s old new is h four seven = h
-input_kept (Err (Plan error)) s old new is h four seven = h
-input_kept (Err (Label label)) s old new is h four seven = h
-input_kept (Err (Hand seat)) s old new is h four seven = h
-input_kept (Err (Definitions error)) s old new is h four seven = h
-input_kept (Err (Condition error)) s old new is h four seven = h
-input_kept (Err (Question name error)) s old new is h four seven = h
-input_kept (Err (Cells name)) s old new is h four seven = h
 input_kept (Err (Interrupted cause.Output)) s old new is h four seven = absurd (four is)
-input_kept (Err (Interrupted cause.Memory)) s old new is h four seven = h
-input_kept (Err (Interrupted cause.Spawn)) s old new is h four seven = h
-input_kept (Err (Interrupted (cause.Stopped worker))) s old new is h four seven = h
-input_kept (Err (Interrupted (cause.Unclosed worker))) s old new is h four seven = h
-input_kept (Err (Line line)) s old new is h four seven = h
-input_kept (Err (Record line)) s old new is h four seven = h
 input_kept (Err Input) s old new is h four seven = absurd (seven is)
-input_kept (Err EndOfInput) s old new is h four seven = h
+input_kept r s old new is h four seven = h
 
 pub has_report : (words : List Text) (r : Result (Option Report) Failure) (s : ℕ)
     (before after old new : Option (List ℕ)) (took_all : Type 0) (err_old err_new : Option (List ℕ))

@@ -64,25 +64,14 @@ no_end _ other (inr due) = due
 
 no_seven : (w : Wish) (f : Failure) (old new : Option (List ℕ)) → ((parts_of w).bytes → ⊥) → MayFail w f
     → MayLeave w f (Some []) (Some []) old new → (f ≡ Input → ⊥) → status_of f ≡ 7 → ⊥
-no_seven w (CommandLine text) old new other due may sound is = cc
-no_seven w (Plan error) old new other due may sound is = cc
-no_seven w (Label label) old new other due may sound is = cc
-no_seven w (Hand seat) old new other due may sound is = cc
-no_seven w (Definitions error) old new other due may sound is = cc
-no_seven w (Condition error) old new other due may sound is = cc
-no_seven w (Question name error) old new other due may sound is = cc
-no_seven w (Cells name) old new other due may sound is = cc
 no_seven w (Interrupted cause.Output) old new other due may sound is = cc
-no_seven w (Interrupted cause.Memory) old new other due may sound is = cc
-no_seven w (Interrupted cause.Spawn) old new other due may sound is = cc
-no_seven w (Interrupted (cause.Stopped worker)) old new other due may sound is = cc
-no_seven w (Interrupted (cause.Unclosed worker)) old new other due may sound is = cc
 no_seven w (Line line) old new other due (inl leaves) sound is = no_line_ended w line old new other leaves
 no_seven w (Line line) old new other due (inr flushed) sound is = let bad = flushed.0 in cc
 no_seven w (Record line) old new other due (inl leaves) sound is = no_record_ended w line old new leaves
 no_seven w (Record line) old new other due (inr flushed) sound is = let bad = flushed.0 in cc
 no_seven w Input old new other due may sound is = sound refl
 no_seven w EndOfInput old new other due may sound is = no_end w other due
+no_seven w f old new other due may sound is = cc
 
 -- the first six of the statuses
 six_of : (s : ℕ) → IsStatusWithInput s → (s ≡ 7 → ⊥) → IsStatus s

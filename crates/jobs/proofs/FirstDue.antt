@@ -213,24 +213,12 @@ count_condition_due s q f plan (inr (given, inl memory)) = rw memory plan
 count_condition_due s q f plan (inr (given, inr (error, is, due))) = rw is (plan, given, due)
 
 questions_due : (s : Search) (q : Questions) (f : Failure) → IsPlanned s numbers_look → HasCondition s → AreRefused s.let_text q f → IsCountDue s q f
-questions_due s q (CommandLine text) plan condition h = absurd h
-questions_due s q (Plan error) plan condition h = absurd h
-questions_due s q (Label name) plan condition h = absurd h
-questions_due s q (Hand seat) plan condition h = absurd h
-questions_due s q (Definitions error) plan condition h = absurd h
-questions_due s q (Condition error) plan condition h = absurd h
 questions_due s q (Question Of error) plan condition h = (plan, condition, h)
 questions_due s q (Question By error) plan condition h = (plan, condition, h)
 questions_due s q (Cells name) plan condition h = (plan, condition, h)
 questions_due s q _ plan condition h = absurd h
 
 questions_refusal : (D : Option (List ℕ)) (q : Questions) (f : Failure) → AreRefused D q f → is_refusal f ≡ true
-questions_refusal D q (CommandLine text) h = absurd h
-questions_refusal D q (Plan error) h = absurd h
-questions_refusal D q (Label name) h = absurd h
-questions_refusal D q (Hand seat) h = absurd h
-questions_refusal D q (Definitions error) h = absurd h
-questions_refusal D q (Condition error) h = absurd h
 questions_refusal D q (Question Of error) h = refl
 questions_refusal D q (Question By error) h = refl
 questions_refusal D q (Cells name) h = refl

@@ -36,8 +36,8 @@ abbrev pub honours_number : Honours → ℕ
 honours_number h =
     cond h.ace 16 0 + cond h.king 8 0 + cond h.queen 4 0 + cond h.jack 2 0 + cond h.ten 1 0
 
--- what is counted, by numbers: what, whose, in which suit, and by which measure, of which order or of
--- which ranks
+-- what is counted, by numbers: what, whose, in which suit, and by which measure, of which order or
+-- of which ranks
 abbrev pub count_code : Count → List ℕ
 count_code (counts.Total m q) = 1 ∷ seat_number q ∷ 0 ∷ measure_number m ∷ []
 count_code (counts.SuitTotal m q s) = 2 ∷ seat_number q ∷ suit_number s ∷ measure_number m ∷ []

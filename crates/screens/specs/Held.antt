@@ -47,5 +47,7 @@ abbrev pub fact_on : List (Option Seat) → Count → Fact
 fact_on fixed k = record {
   count = k;
   least = had fixed k false;
-  most = count_beside k + min (had fixed k true) (had fixed k false + heaviest k * room fixed (whose k));
+  most =
+      count_beside k
+      + min (had fixed k true) (had fixed k false + heaviest k * room fixed (whose k));
 }

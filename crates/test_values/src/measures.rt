@@ -24,8 +24,8 @@ fn measures_in_order(rt: HostRuntime) {
     }
 }
 
-/// An order, its word, the least and the greatest length there of thirteen cards, and which of 2, 6,
-/// 1 and 4 is there.
+/// An order, its word, the least and the greatest length there of thirteen cards, and which of
+/// 2, 6, 1 and 4 is there.
 type OrderRow = (Order, &'static str, u32, u32, u64);
 
 /// The first orders.

@@ -21,7 +21,7 @@
 //! | `%wN` | the word of the call that has the fault |
 //! | `%eN` | what comes after the word `%bN` and a seat; `%e0` of the call |
 //! | `%hN` | the brackets after the name `%bN`; `%h0` of the call |
-//! | `%l0`, `%l1` | the words of all measures, of all orders, each with a comma and a blank after it |
+//! | `%l0`, `%l1` | the words of all measures, of all orders, each with a comma and a blank |
 
 use crate::rules::amounts::{Amount, amount_at, counted_at, ordered};
 use crate::rules::hint::Said;
