@@ -148,9 +148,7 @@ one_if q seat = cond (seat_number seat == seat_number q) 1 0
 
 room_inside : (fixed : List (Option Seat)) → IsFixed fixed → (q : Seat) → first_of fixed q + room fixed q ≤ free_count fixed
 room_inside fixed ok North = omega (arith, rooms_together fixed ok)
-room_inside fixed ok East = omega (arith, rooms_together fixed ok)
-room_inside fixed ok South = omega (arith, rooms_together fixed ok)
-room_inside fixed ok West = omega (arith, rooms_together fixed ok)
+room_inside fixed ok x = omega (arith, rooms_together fixed ok)
 
 -- as many positions are a seat's as it gets cards
 open_seats_of : (fixed : List (Option Seat)) (q : Seat) → IsFixed fixed → total (λ p. one_if q (open_seat fixed p)) (free_count fixed) ≡ room fixed q

@@ -34,9 +34,7 @@ one_test false = refl
 chosen : (seat : Seat) → (if seat_number seat == seat_number North then North else if seat_number seat == seat_number
     East then East else if seat_number seat == seat_number South then South else West) ≡ seat
 chosen North = refl
-chosen East = refl
-chosen South = refl
-chosen West = refl
+chosen x = refl
 
 -- the masks of a deal give the deal
 pub masks_of_seats : (deal : List Seat) → length deal ≡ 52 → seats_of_masks (seat_mask deal North) (seat_mask deal East) (seat_mask deal South) ≡ deal

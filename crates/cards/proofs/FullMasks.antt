@@ -25,9 +25,7 @@ exclusive x p q ne = grind (arith, nat_tests)
 
 some_seat : (holder : Seat) → max (max (bit_of holder North) (bit_of holder East)) (max (bit_of holder South) (bit_of holder West)) ≡ 1
 some_seat North = refl
-some_seat East = refl
-some_seat South = refl
-some_seat West = refl
+some_seat x = refl
 
 bit_held : (deal : List Seat) (seat : Seat) (i : ℕ) → IsPartition deal → i < 52 → bit_at (seat_mask deal seat) i ≡ bit_of (get_or deal i North) seat
 bit_held deal seat i ok h = bit_at_seat deal seat i (rw ok.count h)

@@ -48,9 +48,7 @@ none_given = refl
 
 few_seats : (seat : Seat) → seat_number seat < 4
 few_seats North = omega arith
-few_seats East = omega arith
-few_seats South = omega arith
-few_seats West = omega arith
+few_seats x = omega arith
 
 first_some : (p q r s : Bool) → (p ≡ false → q ≡ false → r ≡ false → s ≡ true)
     → (if p then Some North else if q then Some East else if r then Some South else if s then Some West else None)
@@ -123,9 +121,7 @@ module _ (masks : List ℕ) (held : ℕ) (g : IsGiven masks held) (deal : List S
 
   one_bit : (holder : Seat) → bit_of holder North + bit_of holder East + bit_of holder South + bit_of holder West ≡ 1
   one_bit North = refl
-  one_bit East = refl
-  one_bit South = refl
-  one_bit West = refl
+  one_bit x = refl
 
   pub told_all : held ≡ 2 ^ 52 - 1
   told_all = same_from_bits_below 52 held (2 ^ 52 - 1) g.few (omega arith)
@@ -229,9 +225,7 @@ module _ (masks : List ℕ) (held : ℕ) (g : IsGiven masks held) (card : ℕ) (
   module _ (free : bit_at held card ≡ 0) where
     none_held : (q : Seat) → bit_at (mask_of masks q) card ≡ 0
     none_held North = omega (arith, g.all card, free)
-    none_held East = omega (arith, g.all card, free)
-    none_held South = omega (arith, g.all card, free)
-    none_held West = omega (arith, g.all card, free)
+    none_held x = omega (arith, g.all card, free)
 
     this_bit : (q : Seat) → bit_at (mask_of more q) card ≡ bit_of q seat
     this_bit q = by_test (seat_number q == seat_number seat) refl
@@ -246,9 +240,7 @@ module _ (masks : List ℕ) (held : ℕ) (g : IsGiven masks held) (card : ℕ) (
       where
         one : (holder : Seat) → bit_of North holder + bit_of East holder + bit_of South holder + bit_of West holder ≡ 1
         one North = refl
-        one East = refl
-        one South = refl
-        one West = refl
+        one x = refl
 
         by_test : (b : Bool) → (c == card) ≡ b → bits_of more c ≡ bit_at (with_card held card) c
         by_test true e = rw (eqb-true c card e) (rw (this_bit North, this_bit East, this_bit South, this_bit West)
@@ -277,9 +269,7 @@ module _ (masks : List ℕ) (held : ℕ) (g : IsGiven masks held) (card : ℕ) (
             bit_of South holder == 1 then Some South else if bit_of West holder == 1 then Some West else None) ≡ Some
             holder
         its North = refl
-        its East = refl
-        its South = refl
-        its West = refl
+        its x = refl
 
     far : (c : ℕ) → c ≢ card → given_at more c ≡ given_at masks c
     far c ne = rw (far_bit North c ne, far_bit East c ne, far_bit South c ne, far_bit West c ne) refl
@@ -364,9 +354,7 @@ module _ (masks : List ℕ) (held : ℕ) (g : IsGiven masks held) (cards : ℕ) 
 
   none_there : (q : Seat) (c : ℕ) → bit_at cards c ≡ 1 → bit_at (mask_of masks q) c ≡ 0
   none_there North c one = omega (arith, g.all c, free_there c one)
-  none_there East c one = omega (arith, g.all c, free_there c one)
-  none_there South c one = omega (arith, g.all c, free_there c one)
-  none_there West c one = omega (arith, g.all c, free_there c one)
+  none_there x c one = omega (arith, g.all c, free_there c one)
 
   among : (q : Seat) (c : ℕ) → bit_at cards c ≡ 1 → bit_at (mask_of all_more q) c ≡ bit_of q seat
   among q c one = by_test (seat_number q == seat_number seat) refl
@@ -392,9 +380,7 @@ module _ (masks : List ℕ) (held : ℕ) (g : IsGiven masks held) (cards : ℕ) 
 
   one_seat : (holder : Seat) → bit_of North holder + bit_of East holder + bit_of South holder + bit_of West holder ≡ 1
   one_seat North = refl
-  one_seat East = refl
-  one_seat South = refl
-  one_seat West = refl
+  one_seat x = refl
 
   bits_all : (c : ℕ) → bits_of all_more c ≡ bit_at (bit_or held cards) c
   bits_all c = by_bit (bits_of all_more c ≡ bit_at (bit_or held cards) c) c
@@ -420,9 +406,7 @@ module _ (masks : List ℕ) (held : ℕ) (g : IsGiven masks held) (cards : ℕ) 
       → (if bit_of North holder == 1 then Some North else if bit_of East holder == 1 then Some East else if bit_of
       South holder == 1 then Some South else if bit_of West holder == 1 then Some West else None) ≡ Some holder
   seat_of_all North = refl
-  seat_of_all East = refl
-  seat_of_all South = refl
-  seat_of_all West = refl
+  seat_of_all x = refl
 
   pub all_given : given_of all_more ≡ with_cards cards seat (given_of masks)
   all_given = ext_get_or None (given_of all_more) (with_cards cards seat (given_of masks))

@@ -82,9 +82,7 @@ both-le n false b = omega arith
 suit_cards : (suit : Suit) → sum_by (λ c. cond (is_in_suit suit c) 1 0) pack ≡ 13
 unfolding pack
 suit_cards Spades = refl
-suit_cards Hearts = refl
-suit_cards Diamonds = refl
-suit_cards Clubs = refl
+suit_cards x = refl
 
 pub length_of-le : (hand : List Bool) (suit : Suit) → length_of hand suit ≤ 13
 length_of-le hand suit = omega (
@@ -167,9 +165,7 @@ honours_in_mask honours suit mask m h e =
 pub suit_masks : (suit : Suit) → mask_of_suit suit ≡ mask_l (map (is_in_suit suit) pack)
 unfolding pack
 suit_masks Spades = refl
-suit_masks Hearts = refl
-suit_masks Diamonds = refl
-suit_masks Clubs = refl
+suit_masks x = refl
 
 -- a test of one bit of a hand's mask is whether the hand has the card
 pub held_bit : (mask k c : ℕ) (hand : List Bool) → mask < 2 ^ 52 → cards_of_mask mask ≡ hand → k ≡ c

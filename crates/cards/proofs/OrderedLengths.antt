@@ -59,8 +59,7 @@ ordered_greatest Shortest a b c d all = shortest_most a b c d all
 
 pub few_ordered : (o : Order) → greatest_ordered o ≤ 13
 few_ordered Longest = omega arith
-few_ordered Second = omega arith
-few_ordered Shortest = omega arith
+few_ordered x = omega arith
 
 -- ---- greater numbers
 

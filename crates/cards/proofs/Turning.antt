@@ -17,21 +17,10 @@ use Rattle.cards.proofs.FullMasks.{masks_of_partition}
 -- two seats are the same exactly if their next ones are
 same_next : (a b : Seat) → (seat_number (next_seat a) == seat_number (next_seat b)) ≡ (seat_number a == seat_number b)
 same_next North North = refl
-same_next North East = refl
-same_next North South = refl
-same_next North West = refl
 same_next East North = refl
-same_next East East = refl
-same_next East South = refl
-same_next East West = refl
 same_next South North = refl
-same_next South East = refl
-same_next South South = refl
-same_next South West = refl
 same_next West North = refl
-same_next West East = refl
-same_next West South = refl
-same_next West West = refl
+same_next a b = refl
 
 same_place : (to a b : Seat) → (seat_number (goes_to to a) == seat_number (goes_to to b)) ≡ (seat_number a == seat_number b)
 same_place North a b = refl

@@ -74,9 +74,7 @@ in_suit : (a k q j : ℕ) (suit : Suit)
     → sum_by (λ c. cond (is_in_suit suit c) (get_or (a ∷ k ∷ q ∷ j ∷ []) (c % 13) 0) 0) pack ≡ a + k + q + j
 unfolding pack
 in_suit a k q j Spades = omega arith
-in_suit a k q j Hearts = omega arith
-in_suit a k q j Diamonds = omega arith
-in_suit a k q j Clubs = omega arith
+in_suit a k q j x = omega arith
 
 suit_weight_most : (w : List ℕ) (hand : List Bool) (suit : Suit) → length w ≡ 4 → weight_in w hand suit ≤ sum w
 suit_weight_most (a ∷ k ∷ u ∷ j ∷ []) hand suit four =
@@ -169,9 +167,7 @@ cards_thirteen h deal q ok =
 suit_ranks : (h : Honours) (suit : Suit) → sum_by (λ c. cond (is_in_suit suit c && has_honour h (rank_of c)) 1 0) pack ≡ rank_count h
 unfolding pack
 suit_ranks h Spades = omega arith
-suit_ranks h Hearts = omega arith
-suit_ranks h Diamonds = omega arith
-suit_ranks h Clubs = omega arith
+suit_ranks h x = omega arith
 
 three-le : (a b c : Bool) → cond (a && (b && c)) 1 0 ≤ cond (b && a) 1 0
 three-le true true c = cond-le 1 c

@@ -5,6 +5,4 @@ use Rattle.conditions.specs.Limits.{atoms_of}
 
 pub some_atom : (a : Amount) → 0 < atoms_of a
 some_atom (sum a b) = omega (arith, some_atom a)
-some_atom (number n) = omega arith
-some_atom (counted c) = omega arith
-some_atom (times n c) = omega arith
+some_atom x = omega arith

@@ -16,12 +16,8 @@ use Rattle.conditions.proofs.HandBounds.{lengths_add}
 use Rattle.conditions.proofs.Measured.{cards_most, cards_thirteen, measure_most, suit_cards_most, suit_measure_most}
 
 pub count_at_least : (deal : List Seat) → IsPartition deal → (c : Count) → least_count c ≤ count_in deal c
-count_at_least deal ok (counts.Total m q) = omega arith
-count_at_least deal ok (counts.SuitTotal m q s) = omega arith
-count_at_least deal ok (counts.Cards q h) = omega arith
-count_at_least deal ok (counts.SuitCards q s h) = omega arith
-count_at_least deal ok (counts.Length q s) = omega arith
 count_at_least deal ok (counts.Ordered o q) = ordered_least o _ _ _ _ (lengths_add deal q ok)
+count_at_least deal ok x = omega arith
 
 pub at_least : (deal : List Seat) → IsPartition deal → (a : Amount) → least_of a ≤ value_in deal a
 at_least deal ok (plus a b) = omega (arith, at_least deal ok a, at_least deal ok b)

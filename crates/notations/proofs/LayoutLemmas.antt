@@ -15,37 +15,16 @@ use Rattle.boards.specs.TricksLines.{nothing_known}
 header_by : (format : Format) (seats : Seats) (show : Show) (heading : HeadingView)
     → (layout_by format seats show heading).header ≡ header_of format heading
 header_by Pbn All show heading = refl
-header_by Pbn Dealer show heading = refl
-header_by Pbn North show heading = refl
-header_by Pbn East show heading = refl
-header_by Pbn South show heading = refl
-header_by Pbn West show heading = refl
-header_by Pbn NorthSouth show heading = refl
-header_by Pbn EastWest show heading = refl
 header_by _ seats show heading = refl
 
 board_by : (format : Format) (seats : Seats) (show : Show) (heading : HeadingView) (board : Board)
     → show.seats ≡ seats → (layout_by format seats show heading).board board ≡ board_text format show heading nothing_known board
 board_by Pbn All show heading board all = sym (plain_game heading show board all)
-board_by Pbn Dealer show heading board is = refl
-board_by Pbn North show heading board is = refl
-board_by Pbn East show heading board is = refl
-board_by Pbn South show heading board is = refl
-board_by Pbn West show heading board is = refl
-board_by Pbn NorthSouth show heading board is = refl
-board_by Pbn EastWest show heading board is = refl
 board_by _ seats show heading board is = refl
 
 footer_by : (format : Format) (seats : Seats) (show : Show) (heading : HeadingView)
     → (layout_by format seats show heading).footer ≡ ends_with (footer_of format)
 footer_by Pbn All show heading = refl
-footer_by Pbn Dealer show heading = refl
-footer_by Pbn North show heading = refl
-footer_by Pbn East show heading = refl
-footer_by Pbn South show heading = refl
-footer_by Pbn West show heading = refl
-footer_by Pbn NorthSouth show heading = refl
-footer_by Pbn EastWest show heading = refl
 footer_by _ seats show heading = refl
 
 pub showing_header : (format : Format) (show : Show) (heading : HeadingView)

@@ -14,39 +14,17 @@ stored dealer sides = get_or (get_or DEALER_AND_VULNERABLE (seat_number dealer) 
 
 stored_is : (dealer : Seat) (sides : Vul) → take (get_or LENGTHS (vulnerability_number sides) 0) (stored dealer sides) ≡ board_lines dealer sides
 stored_is North Neither = refl
-stored_is North NorthSouth = refl
-stored_is North EastWest = refl
-stored_is North Both = refl
 stored_is East Neither = refl
-stored_is East NorthSouth = refl
-stored_is East EastWest = refl
-stored_is East Both = refl
 stored_is South Neither = refl
-stored_is South NorthSouth = refl
-stored_is South EastWest = refl
-stored_is South Both = refl
 stored_is West Neither = refl
-stored_is West NorthSouth = refl
-stored_is West EastWest = refl
-stored_is West Both = refl
+stored_is dealer sides = refl
 
 length-stored : (dealer : Seat) (sides : Vul) → length (stored dealer sides) ≡ 48
 length-stored North Neither = refl
-length-stored North NorthSouth = refl
-length-stored North EastWest = refl
-length-stored North Both = refl
 length-stored East Neither = refl
-length-stored East NorthSouth = refl
-length-stored East EastWest = refl
-length-stored East Both = refl
 length-stored South Neither = refl
-length-stored South NorthSouth = refl
-length-stored South EastWest = refl
-length-stored South Both = refl
 length-stored West Neither = refl
-length-stored West NorthSouth = refl
-length-stored West EastWest = refl
-length-stored West Both = refl
+length-stored dealer sides = refl
 
 few : (sides : Vul) → get_or LENGTHS (vulnerability_number sides) 0 ≤ 45
 few Neither = omega arith

@@ -52,40 +52,18 @@ Corrects Greatest taken west south counts w s =
 fixed_at : (bound : Bound) (stage : Stage) (a : Amount) (c : ℕ) (h : Seat)
     → Corrects bound (weight_at a c h) (weight_at a c West) (weight_at a c South) (weight_at a c h) (is_at West h) (is_south stage h)
 fixed_at Least OneHand a c North = omega arith
-fixed_at Least OneHand a c East = omega arith
-fixed_at Least OneHand a c South = omega arith
-fixed_at Least OneHand a c West = omega arith
 fixed_at Least TwoHands a c North = omega arith
-fixed_at Least TwoHands a c East = omega arith
-fixed_at Least TwoHands a c South = omega arith
-fixed_at Least TwoHands a c West = omega arith
 fixed_at Greatest OneHand a c North = omega arith
-fixed_at Greatest OneHand a c East = omega arith
-fixed_at Greatest OneHand a c South = omega arith
-fixed_at Greatest OneHand a c West = omega arith
 fixed_at Greatest TwoHands a c North = omega arith
-fixed_at Greatest TwoHands a c East = omega arith
-fixed_at Greatest TwoHands a c South = omega arith
-fixed_at Greatest TwoHands a c West = omega arith
+fixed_at bound stage a c h = omega arith
 
 free_at : (bound : Bound) (stage : Stage) (a : Amount) (c : ℕ) (h : Seat)
     → Corrects bound (open_weight bound stage a c None) (weight_at a c West) (weight_at a c South) (weight_at a c h) (is_at West h) (is_south stage h)
 free_at Least OneHand a c North = omega arith
-free_at Least OneHand a c East = omega arith
-free_at Least OneHand a c South = omega arith
-free_at Least OneHand a c West = omega arith
 free_at Least TwoHands a c North = omega arith
-free_at Least TwoHands a c East = omega arith
-free_at Least TwoHands a c South = omega arith
-free_at Least TwoHands a c West = omega arith
 free_at Greatest OneHand a c North = omega arith
-free_at Greatest OneHand a c East = omega arith
-free_at Greatest OneHand a c South = omega arith
-free_at Greatest OneHand a c West = omega arith
 free_at Greatest TwoHands a c North = omega arith
-free_at Greatest TwoHands a c East = omega arith
-free_at Greatest TwoHands a c South = omega arith
-free_at Greatest TwoHands a c West = omega arith
+free_at bound stage a c h = omega arith
 
 either_at : (bound : Bound) (stage : Stage) (a : Amount) (c : ℕ) (f : Option Seat) (h : Seat) → ((q : Seat) → f ≡ Some q → h ≡ q)
     → Corrects bound (open_weight bound stage a c f) (weight_at a c West) (weight_at a c South) (weight_at a c h) (is_at West h) (is_south stage h)

@@ -62,10 +62,7 @@ not_not false = refl
 opposite : (o : Op) (x y : ℕ) → is_related o x y ≡ not (is_related (related_as o false) x y)
 opposite Equal x y = sym (not_not (x == y))
 opposite NotEqual x y = refl
-opposite Less x y = grind (arith, nat_tests)
-opposite AtMost x y = grind (arith, nat_tests)
-opposite More x y = grind (arith, nat_tests)
-opposite AtLeast x y = grind (arith, nat_tests)
+opposite z x y = grind (arith, nat_tests)
 
 other_relation : (o : Op) (truth : Bool) (a b c d x y : ℕ) → a ≤ x → x ≤ b → c ≤ y → y ≤ d
     → is_never_related (related_as o truth) a b c d ≡ true → is_related o x y ≡ not truth

@@ -19,9 +19,7 @@ use Rattle.screens.proofs.Truths.{all_true, same_number}
 
 seat_back : (q : Seat) → seat_of_number (seat_number q) ≡ q
 seat_back North = refl
-seat_back East = refl
-seat_back South = refl
-seat_back West = refl
+seat_back x = refl
 
 abbrev suit_at : ℕ → Suit
 suit_at zero = Spades
@@ -31,9 +29,7 @@ suit_at _ = Clubs
 
 suit_back : (s : Suit) → suit_at (suit_number s) ≡ s
 suit_back Spades = refl
-suit_back Hearts = refl
-suit_back Diamonds = refl
-suit_back Clubs = refl
+suit_back x = refl
 
 abbrev ranks : Bool → Bool → Bool → Bool → Bool → Honours
 ranks a k q j t = record { ace = a; king = k; queen = q; jack = j; ten = t }

@@ -22,22 +22,11 @@ left_sum deal (suc m) k = count_in deal (part_at m k).count + left_sum deal m k
 -- ---- the counts stay the same
 
 same_part : (j m n r : ℕ) (k : Facts) → (part_at j (told m n r k)).count ≡ (part_at j k).count
-same_part zero zero n r k = refl
-same_part zero (suc zero) n r k = refl
 same_part zero (suc (suc zero)) n r k = refl
-same_part zero (suc (suc (suc m))) n r k = refl
-same_part (suc zero) zero n r k = refl
-same_part (suc zero) (suc zero) n r k = refl
 same_part (suc zero) (suc (suc zero)) n r k = refl
-same_part (suc zero) (suc (suc (suc m))) n r k = refl
-same_part (suc (suc zero)) zero n r k = refl
-same_part (suc (suc zero)) (suc zero) n r k = refl
 same_part (suc (suc zero)) (suc (suc zero)) n r k = refl
-same_part (suc (suc zero)) (suc (suc (suc m))) n r k = refl
-same_part (suc (suc (suc j))) zero n r k = refl
-same_part (suc (suc (suc j))) (suc zero) n r k = refl
 same_part (suc (suc (suc j))) (suc (suc zero)) n r k = refl
-same_part (suc (suc (suc j))) (suc (suc (suc m))) n r k = refl
+same_part j m n r k = refl
 
 same_sum : (deal : List Seat) (j m n r : ℕ) (k : Facts) → left_sum deal j (told m n r k) ≡ left_sum deal j k
 same_sum deal zero m n r k = refl

@@ -44,9 +44,7 @@ exact deal k ok none beside =
 
 one_seat : (n : ℕ) (q : Seat) → cond (is_at North q) n 0 + cond (is_at East q) n 0 + cond (is_at South q) n 0 + cond (is_at West q) n 0 ≡ n
 one_seat n North = omega arith
-one_seat n East = omega arith
-one_seat n South = omega arith
-one_seat n West = omega arith
+one_seat n x = omega arith
 
 shared : (deal : List Seat) (f : ℕ → ℕ)
     → sum_by (at_seat deal f North) pack + sum_by (at_seat deal f East) pack + sum_by (at_seat deal f South) pack
@@ -66,9 +64,7 @@ shared deal f =
 suit_total : (s : Suit) → sum_by (λ c. cond (is_in_suit s c) 1 0) pack ≡ 13
 unfolding pack
 suit_total Spades = omega arith
-suit_total Hearts = omega arith
-suit_total Diamonds = omega arith
-suit_total Clubs = omega arith
+suit_total x = omega arith
 
 hcp_total : sum_by (rank_weight Hcp) pack ≡ 40
 unfolding pack
@@ -81,16 +77,12 @@ controls_total = refl
 suit_hcp_total : (s : Suit) → sum_by (λ c. cond (is_in_suit s c) (rank_weight Hcp c) 0) pack ≡ 10
 unfolding pack
 suit_hcp_total Spades = refl
-suit_hcp_total Hearts = refl
-suit_hcp_total Diamonds = refl
-suit_hcp_total Clubs = refl
+suit_hcp_total x = refl
 
 suit_controls_total : (s : Suit) → sum_by (λ c. cond (is_in_suit s c) (rank_weight Controls c) 0) pack ≡ 3
 unfolding pack
 suit_controls_total Spades = refl
-suit_controls_total Hearts = refl
-suit_controls_total Diamonds = refl
-suit_controls_total Clubs = refl
+suit_controls_total x = refl
 
 ranks_total : (h : Honours) → sum_by (λ c. cond (has_honour h (rank_of c)) 1 0) pack ≡ 4 * rank_count h
 unfolding pack
@@ -99,9 +91,7 @@ ranks_total h = omega arith
 suit_ranks_total : (h : Honours) (s : Suit) → sum_by (λ c. cond (is_in_suit s c) (cond (has_honour h (rank_of c)) 1 0) 0) pack ≡ rank_count h
 unfolding pack
 suit_ranks_total h Spades = omega arith
-suit_ranks_total h Hearts = omega arith
-suit_ranks_total h Diamonds = omega arith
-suit_ranks_total h Clubs = omega arith
+suit_ranks_total h x = omega arith
 
 -- ---- wholes
 
