@@ -1,5 +1,5 @@
 -- A text with nothing that the first language lacked has the pieces that it had then.
-use Rattle.std.proofs.Common.{◌≡◌, ℕ, ◌<◌, ◌≤◌, ◌⊎◌, true, false, List, [], ◌∷◌, ◌++◌, length, Option, Some, None}
+use Rattle.std.proofs.Common.{◌≡◌, ℕ, ◌<◌, ◌≤◌, ◌⊎◌, true, false, List, [], ◌∷◌, ◌++◌, ◌+◌, drop, length, map, Option, Some, None}
 use Rattle.std.proofs.Common.{refl, sym, ap, ◌∙◌, subst, arith, inl, inr}
 use Rattle.std.specs.Prelude.{Contains, ◌↔◌}
 use Rattle.std.specs.List.{AllByRecursion}
@@ -7,11 +7,15 @@ use Rattle.std.specs.Char.{is_ascii_lowercase, is_ascii_digit}
 use Rattle.std.proofs.lemmas.Bool.{cases_Bool, cases_eq, eqb-true, ne_eqb}
 use Rattle.std.proofs.lemmas.Bool.Decides.{nat_tests}
 use Rattle.std.proofs.lemmas.List.Elements.{Contains-append_left, Contains-append_right, recursion_from_All}
+use Rattle.cards.specs.declared.hand.Measure.{Measure as AMeasure}
+use Rattle.cards.specs.declared.hand.Measure.TheVariants.{Hcp}
+use Rattle.cards.specs.Measures.{measures}
+use Rattle.cards.specs.Orders.{orders}
 use Rattle.cond_lang.specs.declared.scanner.Token.{Token}
-use Rattle.cond_lang.specs.declared.scanner.Token.TheVariants.{Plus, Star, Ranks, Number}
+use Rattle.cond_lang.specs.declared.scanner.Token.TheVariants.{Measure, Ordered, Plus, Star, Ranks, Number}
 use Rattle.cond_lang.specs.declared.scanner.Piece.{Piece}
 use Rattle.cond_lang.specs.declared.scanner.Piece.TheVariants.{Separator, Token as TokenPiece, StrayByte, UnknownWord, LongNumber}
-use Rattle.cond_lang.specs.Cut.{words, symbols, is_separator, are_ranks, named_by, decimal, IsRun, BeginsWithSymbol}
+use Rattle.cond_lang.specs.Cut.{measure_word, order_word, words, symbols, is_separator, are_ranks, named_by, decimal, IsRun, BeginsWithSymbol}
 use Rattle.cond_lang.specs.Cut.{BeginsWithNone, IsPiece, blank, comment, word, ranks, no_word, number, long, symbol}
 use Rattle.cond_lang.specs.Cut.{stray, Pieces, IsCut, end, piece}
 use Rattle.cond_lang.specs.SmallerGrammars.{IsOldest}
@@ -20,7 +24,7 @@ use Rattle.cond_lang.specs.FirstPieces.{first_words, first_symbols, is_first_sep
 use Rattle.cond_lang.specs.FirstPieces.{BeginsWithFirst, IsFirstPiece, IsFirstCut, HasFirstBytes, IsOldestPiece}
 use Rattle.cond_lang.specs.FirstPieces.{IsFirstText}
 use Rattle.cond_lang.specs.internal.Scanning.{token_of}
-use Rattle.cond_lang.proofs.Tables.{words_apart, token_of-entry, entry_of, at_entry}
+use Rattle.cond_lang.proofs.Tables.{Table, EachEntry, words_apart, token_of-entry, entry_of, at_entry, each_append, each_row}
 use Rattle.cond_lang.proofs.Symbols.{fits}
 
 -- ---- tables
@@ -29,9 +33,35 @@ word_kept : (p : List ℕ) (t : Token) → token_of first_words p ≡ Some t →
 word_kept p t e o = entry_of first_words p t e
 
 -- a word whose token is an oldest one is a first word
-first_word : (p : List ℕ) (t : Token) → Contains words (p, t) → IsOldest t → Contains first_words (p, t)
+abbrev KeptThen : List ℕ → Token → Type 0
+KeptThen p t = IsOldest t → Contains first_words (p, t)
+
+measure_kept : (m : AMeasure) → KeptThen (measure_word m) (Measure m)
+measure_kept Hcp = word_kept _ _ refl
+measure_kept m = λ o. absurd o
+
+abbrev measure_rows : Table
+measure_rows = map (λ m. (measure_word m, Measure m)) measures
+
+each_measure : EachEntry KeptThen measure_rows
+each_measure = each_row KeptThen (λ m. (measure_word m, Measure m)) measures measure_kept
+
+abbrev order_rows : Table
+order_rows = map (λ o. (order_word o, Ordered o)) orders
+
+-- what comes after the rows in the table of words
+abbrev after_measures : Table
+after_measures = drop (9 + length measures) words
+
+abbrev after_orders : Table
+after_orders = drop (11 + length measures + length orders) words
+
+each_order : EachEntry KeptThen order_rows
+each_order = each_row KeptThen (λ o. (order_word o, Ordered o)) orders (λ o later. absurd later)
+
+first_word : (p : List ℕ) (t : Token) → Contains words (p, t) → KeptThen p t
 first_word =
-    at_entry (λ p t. IsOldest t → Contains first_words (p, t)) words (
+    at_entry KeptThen words (
       word_kept _ _ refl,
       (
         word_kept _ _ refl,
@@ -49,64 +79,57 @@ first_word =
                     (λ o. absurd o),
                     (
                       (λ o. absurd o),
-                      (
-                        word_kept _ _ refl,
+                      each_append KeptThen measure_rows after_measures each_measure (
+                        (λ o. absurd o),
                         (
-                          (λ o. absurd o),
-                          (
+                          word_kept _ _ refl,
+                          each_append KeptThen order_rows after_orders each_order (
                             (λ o. absurd o),
                             (
                               (λ o. absurd o),
                               (
                                 word_kept _ _ refl,
                                 (
-                                  (λ o. absurd o),
+                                  word_kept _ _ refl,
                                   (
-                                    (λ o. absurd o),
+                                    word_kept _ _ refl,
                                     (
-                                      (λ o. absurd o),
+                                      word_kept _ _ refl,
                                       (
                                         (λ o. absurd o),
                                         (
                                           (λ o. absurd o),
                                           (
-                                            word_kept _ _ refl,
+                                            (λ o. absurd o),
                                             (
-                                              word_kept _ _ refl,
+                                              (λ o.
+                                                  absurd o),
                                               (
-                                                word_kept _ _ refl,
+                                                (λ o. absurd o),
                                                 (
-                                                  word_kept _ _ refl,
+                                                  (λ o. absurd o),
                                                   (
-                                                    (λ o. absurd o),
+                                                    word_kept _ _ refl,
                                                     (
-                                                      (λ o. absurd o),
+                                                      word_kept _ _ refl,
                                                       (
-                                                        (λ o. absurd o),
+                                                        word_kept _ _ refl,
                                                         (
-                                                          (λ o. absurd o),
+                                                          word_kept _ _
+                                                              refl,
                                                           (
                                                             (λ o. absurd o),
                                                             (
                                                               (λ o. absurd o),
                                                               (
-                                                                word_kept _ _ refl,
+                                                                (λ o. absurd o),
                                                                 (
-                                                                  word_kept _ _ refl,
+                                                                  (λ o. absurd o),
                                                                   (
-                                                                    word_kept _ _ refl,
+                                                                    (λ o. absurd o),
                                                                     (
-                                                                      word_kept _ _ refl,
-                                                                      (
-                                                                        (λ o. absurd o),
-                                                                        (
-                                                                          (λ o. absurd o),
-                                                                          (
-                                                                            (λ o. absurd o),
-                                                                            ((λ o. absurd o), ((λ o. absurd o), ((λ o. absurd o), tt))),
-                                                                          ),
-                                                                        ),
-                                                                      ),
+                                                                      (λ o. absurd o),
+                                                                      tt,
                                                                     ),
                                                                   ),
                                                                 ),
@@ -152,7 +175,8 @@ word_still =
           (
             entry_of words _ _ refl,
             (
-              entry_of words _ _ refl,
+              entry_of words _ _
+                  refl,
               (
                 entry_of words _ _ refl,
                 (
@@ -162,12 +186,23 @@ word_still =
                     (
                       entry_of words _ _ refl,
                       (
-                        entry_of words _ _ refl,
+                        entry_of words
+                            _ _ refl,
                         (
                           entry_of words _ _ refl,
                           (
                             entry_of words _ _ refl,
-                            (entry_of words _ _ refl, (entry_of words _ _ refl, (entry_of words _ _ refl, (entry_of words _ _ refl, tt)))),
+                            (
+                              entry_of words _ _ refl,
+                              (
+                                entry_of words _ _ refl,
+                                (
+                                  entry_of
+                                      words _ _ refl,
+                                  (entry_of words _ _ refl, tt),
+                                ),
+                              ),
+                            ),
                           ),
                         ),
                       ),
@@ -181,7 +216,6 @@ word_still =
       ),
     )
 
--- a plus or a star
 abbrev IsLaterSymbol : List ℕ → Token → Type 0
 IsLaterSymbol p t = ((p ≡ 43 ∷ []) × (t ≡ Plus)) ⊎ ((p ≡ 42 ∷ []) × (t ≡ Star))
 
@@ -205,14 +239,22 @@ first_or_later =
             (
               inr (inl (refl, refl)),
               (
-                inr (inr (refl, refl)),
+                inr
+                    (inr (refl, refl)),
                 (
                   symbol_kept _ _ refl,
                   (
                     symbol_kept _ _ refl,
                     (
                       symbol_kept _ _ refl,
-                      (symbol_kept _ _ refl, (symbol_kept _ _ refl, (symbol_kept _ _ refl, tt))),
+                      (
+                        symbol_kept _ _ refl,
+                        (
+                          symbol_kept
+                              _ _ refl,
+                          (symbol_kept _ _ refl, tt),
+                        ),
+                      ),
                     ),
                   ),
                 ),

@@ -1,5 +1,5 @@
 -- Tables of words and symbols: what is looked up is an entry, and each entry is found.
-use Rattle.std.proofs.Common.{◌≡◌, ℕ, zero, suc, Bool, true, false, not, List, [], ◌∷◌, Option, Some, None, ◌&&◌}
+use Rattle.std.proofs.Common.{◌≡◌, ℕ, zero, suc, Bool, true, false, not, List, [], ◌∷◌, ◌++◌, map, Option, Some, None, ◌&&◌}
 use Rattle.std.proofs.Common.{refl, sym, ap, ◌∙◌, subst, arith, if◌then◌else◌}
 use Rattle.std.specs.Prelude.{Contains}
 use Rattle.std.proofs.lemmas.Bool.{false≢true}
@@ -74,6 +74,16 @@ entry_of (x ∷ table) p t =
 abbrev pub EachEntry : (List ℕ → Token → Type 0) → Table → Type 0
 EachEntry P [] = Unit {0}
 EachEntry P (e ∷ table) = P e.0 e.1 × EachEntry P table
+
+-- of a table in parts, and of one that is made of rows
+pub each_append : (P : List ℕ → Token → Type 0) (xs ys : Table) → EachEntry P xs → EachEntry P ys → EachEntry P (xs ++ ys)
+each_append P [] ys h more = more
+each_append P (x ∷ xs) ys h more = (h.0, each_append P xs ys h.1 more)
+
+pub each_row : {X : Type 0} (P : List ℕ → Token → Type 0) (f : X → List ℕ × Token) (xs : List X)
+    → ((x : X) → P (f x).0 (f x).1) → EachEntry P (map f xs)
+each_row P f [] h = tt
+each_row P f (x ∷ xs) h = (h x, each_row P f xs h)
 
 pub at_entry : (P : List ℕ → Token → Type 0) (table : Table) → EachEntry P table → (p : List ℕ) (t : Token) → Contains table (p, t) → P p t
 at_entry P [] h p t (k, lt, e) = absurd (omega arith)
