@@ -28,7 +28,7 @@ find_app = command_with (codes "find") (
 -- `deals count --seed S` and its further options
 abbrev pub count_app : App
 count_app = command_with (codes "count") (
-    seed_rules ++ search_rules ++ hand_rules ++ question_rules
+    seed_rules ++ search_rules ++ hand_rules ++ question_rules ++ format_rules
     ++ speed_rules ++ progress_rules ++ hints_rules ++ help_rules)
 
 -- `deals pick --seed S` and its further options

@@ -93,6 +93,7 @@ static SUBCOMMANDS: [SubcommandRow; 9] = [
             SEARCH_ROWS,
             HAND_ROWS,
             QUESTION_ROWS,
+            FORMAT_ROWS,
             SPEED_ROWS,
             PROGRESS_ROWS,
             HINTS_ROWS,

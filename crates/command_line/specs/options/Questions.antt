@@ -7,15 +7,13 @@ use Rattle.boards.specs.declared.style.Style.{Style}
 use Rattle.boards.specs.declared.style.Style.TheVariants.{Csv, Html, Json, Table}
 use Rattle.command_line.specs.Given.{choice_in}
 use Rattle.command_line.specs.Rules.{option_rule, repeated}
-use Rattle.command_line.specs.options.Look.{format_rules}
 use Rattle.requests.specs.Requests.{Questions, each_question, no_question, one_question, two_questions}
 
--- the questions, and the format of their table
 abbrev pub question_rules : List Rule
 question_rules =
     repeated (option_rule (codes "of") parsed.String)
     ∷ option_rule (codes "by") parsed.String
-    ∷ format_rules
+    ∷ []
 
 abbrev pub styles : List (Text × Style)
 styles =

@@ -14,11 +14,9 @@ use boards::{STYLE_WORDS, STYLES};
 use clap::ArgMatches;
 use requests::{MAX_QUESTIONS, Questions, Style, Texts};
 
-/// The questions, and the format of their table.
 pub(crate) const QUESTION_ROWS: &[OptionRow] = &[
     optional! { "of" Takes::Texts("TEXT") },
     optional! { "by" Takes::Text("TEXT") },
-    optional! { 'f' "format" Takes::Word("FORMAT") },
 ];
 
 const COUNTED: &str = "What is counted";
