@@ -188,8 +188,11 @@ output_due _ status = tt
 
 -- a refused plan is due for a `make` and for a `pick`
 pub make_plan_due : (s : Search) (l : Look) (f : Failure) → IsPlanDue s l f → IsMakeDue s l f
+make_plan_due s l (CommandLine text) h = h
+make_plan_due s l (Plan error) h = h
+make_plan_due s l (Label name) h = h
+make_plan_due s l (Hand seat) h = h
 make_plan_due s l _ h = absurd h
-make_plan_due s l x h = h
 
 -- what is due before the input is read is due with tricks too
 tricks_due : (s : Search) (l : Look) (f : Failure) → is_refusal f ≡ true → IsMakeDue s l f → IsTricksDue s l f
@@ -198,12 +201,18 @@ tricks_due s l Input before h = absurd cc
 tricks_due s l _ before h = h
 
 pub pick_plan_due : (s : Search) (l : Look) (f : Failure) → IsPlanDue s l f → IsPickDue s l f
+pick_plan_due s l (CommandLine text) h = h
+pick_plan_due s l (Plan error) h = h
+pick_plan_due s l (Label name) h = h
+pick_plan_due s l (Hand seat) h = h
 pick_plan_due s l _ h = absurd h
-pick_plan_due s l x h = h
 
 pub count_plan_due : (s : Search) (q : Questions) (f : Failure) → IsPlanDue s numbers_look f → IsCountDue s q f
+count_plan_due s q (CommandLine text) h = h
+count_plan_due s q (Plan error) h = h
+count_plan_due s q (Label name) h = h
+count_plan_due s q (Hand seat) h = h
 count_plan_due s q _ h = absurd h
-count_plan_due s q x h = h
 
 -- a condition or a question that is refused is due for a `count`
 count_condition_due : (s : Search) (q : Questions) (f : Failure) → IsPlanned s numbers_look → IsConditionFailure s f → IsCountDue s q f
@@ -232,8 +241,15 @@ count_run_due s q _ plan condition subject asked = (plan, condition, (subject, a
 
 -- nothing was done before it
 pub plan_refusal : (s : Search) (l : Look) (f : Failure) → IsPlanDue s l f → is_refusal f ≡ true
+plan_refusal s l (CommandLine text) h = refl
+plan_refusal s l (Plan error) h = refl
+plan_refusal s l (Label name) h = refl
+plan_refusal s l (Hand seat) h = refl
+plan_refusal s l (Definitions error) h = refl
+plan_refusal s l (Condition error) h = refl
+plan_refusal s l (Question name error) h = refl
+plan_refusal s l (Cells name) h = refl
 plan_refusal s l _ h = absurd h
-plan_refusal s l x h = refl
 
 -- ---- before anything was done
 
