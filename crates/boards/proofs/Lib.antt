@@ -10,3 +10,9 @@ pub mod TricksShort
 pub mod Rooms
 pub mod Tested
 pub mod OfLabels
+pub mod Ranges
+pub mod Results
+pub mod BoardLists
+pub mod Accepting
+pub mod Running
+pub mod Saying

@@ -1,7 +1,7 @@
 -- A label is a caption.
-use Rattle.std.proofs.Common.{◌≡◌, ◌≤◌, ◌<◌, ℕ, zero, suc, Bool, true, false, List, [], ◌∷◌, length, arith, refl, sym, subst, ap, ◌∙◌}
-use Rattle.std.specs.Prelude.{nat_le, nat_lt, not, ◌&&◌, slice_index}
-use Rattle.std.specs.Str.{chars, is_utf8, IsAscii}
+use Rattle.std.proofs.Common.{◌≡◌, ◌≤◌, ◌<◌, ℕ, zero, suc, true, false, List, [], ◌∷◌, length, arith, refl, sym, subst, ap, ◌∙◌}
+use Rattle.std.specs.Prelude.{nat_le, slice_index}
+use Rattle.std.specs.Str.{chars, IsAscii}
 use Rattle.std.specs.List.{All, list_all}
 use Rattle.std.proofs.lemmas.Bool.{and_from, and_left, le-leb, le-ltb, lt-leb, not_from_false, or_from}
 use Rattle.std.proofs.lemmas.List.Elements.{All-tail}

@@ -9,7 +9,7 @@ use Rattle.cards.specs.Deals.{IsPartition}
 use Rattle.cards.specs.Hands.{hand_of}
 use Rattle.cards.specs.Turning.{goes_to, turned}
 use Rattle.cards.specs.declared.seat.Seat.{Seat}
-use Rattle.cards.specs.declared.seat.Seat.TheVariants.{North, East, South, West}
+use Rattle.cards.specs.declared.seat.Seat.TheVariants.{North}
 
 -- a board with these parts
 abbrev pub board_with : ℕ → ℕ → Seat → Vul → List Seat → Board

@@ -1,5 +1,5 @@
 -- What the tests of texts decide.
-use Rattle.std.proofs.Common.{◌≡◌, ◌↔◌, ◌≤◌, ℕ, Bool, true, false, List, length, arith, Option, None, Some, refl, rules, sym, ◌∙◌}
+use Rattle.std.proofs.Common.{◌≡◌, ◌↔◌, ◌≤◌, ℕ, Bool, true, false, List, length, arith, Option, None, Some, refl, rules}
 use Rattle.std.specs.Prelude.{IfSome, IsSome, if◌then◌else◌, nat_le}
 use Rattle.std.specs.List.{list_all}
 use Rattle.std.specs.Bool.{Decides}
@@ -11,7 +11,7 @@ use Rattle.std.proofs.lemmas.Str.{IsUtf8-from_is_utf8, is_utf8-from_IsUtf8}
 use Rattle.boards.specs.Labels.{IsLabel, IsLabelByte}
 use Rattle.boards.specs.Headings.{HeadingView}
 use Rattle.boards.specs.declared.format.Format.{Format}
-use Rattle.boards.specs.declared.format.Format.TheVariants.{Pbn, Hands, Lin, Html, Sheet, Slips, Json, Numbers}
+use Rattle.boards.specs.declared.format.Format.TheVariants.{Pbn}
 use Rattle.boards.specs.Captions.{AreLabels, captions_in, label_of}
 use Rattle.boards.specs.Captions.{is_caption, is_label, is_label_byte, is_printable}
 

@@ -10,4 +10,9 @@ pub mod TricksLines
 pub mod TricksTags
 pub mod Captions
 pub mod Room
+pub mod Plans
+pub mod Refusals
+pub mod Text
+pub mod Reference
+pub mod Reports
 pub mod internal

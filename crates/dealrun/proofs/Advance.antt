@@ -11,13 +11,13 @@ use Rattle.lanes.specs.Verdicts.{turns}
 use Rattle.lanes.specs.Views.{OutView}
 use Rattle.lanes.proofs.Places.{turns-none}
 use Rattle.lanes.proofs.Sums.{turns-here, turns-elsewhere}
-use Rattle.plans.specs.Plans.{Planned}
+use Rattle.boards.specs.Plans.{Planned}
 use Rattle.sinks.specs.Appended.{append_known, AppendsPart}
-use Rattle.plans.specs.Text.{board_of, text_of_boards}
+use Rattle.boards.specs.Text.{board_of, text_of_boards}
 use Rattle.dealrun.specs.MergedVerdicts.{in_turn, boards_in, boards_after}
 use Rattle.dealrun.specs.internal.Writing.{board_text, printed, board_count, taken_lists, TakenInTurn, StaysShort, WriterSoFar, WriterBrokeOff}
 use Rattle.sinks.proofs.SinkLemmas.{append_known-append, append_known-nil}
-use Rattle.plans.proofs.BoardLists.{IsWithin, within_more, text_of_boards-none, text_of_boards-more}
+use Rattle.boards.proofs.BoardLists.{IsWithin, within_more, text_of_boards-none, text_of_boards-more}
 use Rattle.dealrun.proofs.VerdictBoards.{boards_in-none, boards_in-push}
 use Rattle.dealrun.proofs.Printing.{in_turn-none, in_turn-kept, in_turn-grown, grown}
 

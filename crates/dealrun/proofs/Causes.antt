@@ -6,11 +6,11 @@ use Rattle.conditions.specs.Form.{Form}
 use Rattle.lanes.specs.declared.verdict.Verdict.{Verdict}
 use Rattle.lanes.specs.Views.{OutView}
 use Rattle.lanes.specs.Prefixes.{IsPrefix}
-use Rattle.plans.specs.Plans.{Planned}
+use Rattle.boards.specs.Plans.{Planned}
 use Rattle.lanes.specs.Jobs.{verdicts_for}
 use Rattle.dealrun.specs.Headline.{contents_of}
 use Rattle.dealrun.specs.Interrupted.{InterruptedIn, StandsCompleteIn}
-use Rattle.plans.specs.declared.cause.Cause.{Cause}
+use Rattle.boards.specs.declared.cause.Cause.{Cause}
 use Rattle.dealrun.specs.declared.join.Written.{Written}
 use Rattle.dealrun.specs.declared.join.Written.TheVariants.{Failed, Full, Open}
 use Rattle.dealrun.specs.declared.writer.Writer.{Writer}

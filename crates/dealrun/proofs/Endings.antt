@@ -26,21 +26,21 @@ use Rattle.lanes.specs.Prefixes.{IsPrefix}
 use Rattle.lanes.proofs.Places.{count_even, turns_less}
 use Rattle.lanes.proofs.Sums.{sum-turn_counts}
 use Rattle.lanes.proofs.VerdictLists.{length-verdicts, verdicts-are}
-use Rattle.plans.specs.Plans.{Planned, candidate_of}
+use Rattle.boards.specs.Plans.{Planned, candidate_of}
 use Rattle.sinks.specs.Appended.{append_known, AppendsAll, AppendsPart}
-use Rattle.plans.specs.Text.{accepted_among, accepted, boards_of, text_of, text_of_boards, end_of}
+use Rattle.boards.specs.Text.{accepted_among, accepted, boards_of, text_of, text_of_boards, end_of}
 use Rattle.dealrun.specs.MergedVerdicts.{at_turn, in_turn, boards_in, boards_taken, taken_in_all}
 use Rattle.lanes.specs.Jobs.{verdicts_for}
-use Rattle.plans.specs.declared.cause.Cause.TheVariants.{Output}
+use Rattle.boards.specs.declared.cause.Cause.TheVariants.{Output}
 use Rattle.dealrun.specs.internal.Joins.{AllParts, ByNumber}
 use Rattle.dealrun.specs.internal.Ends.{Closes}
 use Rattle.dealrun.specs.internal.Writing.{board_count, printed, taken_lists, TakenInTurn, StaysShort, WroteTaken, WriterSoFar}
 use Rattle.dealrun.specs.Headline.{EachLane, AllSettled, for_each_worker, contents_of, TakesWhatIsOwed}
 use Rattle.dealrun.specs.Interrupted.{AreLanesConsistent, InterruptedIn, StandsCompleteIn, footer_taken}
-use Rattle.plans.proofs.BoardLists.{length-boards_of}
+use Rattle.boards.proofs.BoardLists.{length-boards_of}
 use Rattle.sinks.proofs.SinkLemmas.{append_known-append, append_known-nil}
 use Rattle.dealrun.proofs.Printing.{in_turn-none, in_turn-more}
-use Rattle.plans.proofs.Accepting.{end_here, needed_here, accepted_here}
+use Rattle.boards.proofs.Accepting.{end_here, needed_here, accepted_here}
 use Rattle.dealrun.proofs.VerdictBoards.{boards_are}
 
 -- a list's beginning, when more follows it in a beginning

@@ -11,7 +11,7 @@ use Rattle.conditions.specs.Form.{Form}
 use Rattle.lanes.specs.declared.verdict.Verdict.{Verdict}
 use Rattle.lanes.specs.Views.{OutView}
 use Rattle.lanes.specs.Prefixes.{IsPrefix, IsProperPrefix}
-use Rattle.plans.specs.Plans.{Planned}
+use Rattle.boards.specs.Plans.{Planned}
 use Rattle.sinks.specs.Appended.{append_known}
 use Rattle.dealrun.specs.MergedVerdicts.{boards_after, taken_in_all}
 use Rattle.lanes.specs.Jobs.{verdicts_for}
@@ -19,7 +19,7 @@ use Rattle.dealrun.specs.internal.Joins.{ByNumber, Owes, JoinedAs, Below, WholeI
 use Rattle.dealrun.specs.internal.Writing.{board_count, printed, TakenInTurn, StaysShort, WriterSoFar, WriterBrokeOff}
 use Rattle.dealrun.specs.Headline.{contents_of}
 use Rattle.dealrun.specs.Interrupted.{AreLanesConsistent, BreaksOffLastPiece, IsLeastStopped, IsLeastUnclosed, InterruptedIn, BreaksOffFooter}
-use Rattle.plans.specs.declared.cause.Cause.TheVariants.{Spawn}
+use Rattle.boards.specs.declared.cause.Cause.TheVariants.{Spawn}
 use Rattle.dealrun.proofs.Advance.{fresh_turns}
 use Rattle.dealrun.proofs.Endings.{taken_total, stand, each_number, each_lane, no_lane}
 

@@ -14,8 +14,8 @@ use Rattle.conditions.specs.Meaning.{holds}
 use Rattle.lanes.specs.Verdicts.{verdicts}
 use Rattle.lanes.proofs.VerdictLists.{same_verdicts}
 use Rattle.pbn_text.specs.Games.{HeadingView, game, game_text, header, pbn}
-use Rattle.plans.specs.Plans.{Planned, candidate_of}
-use Rattle.plans.specs.Text.{accepted, accepted_among, board_of, boards_of, end_of, limited, needed_by, text_of}
+use Rattle.boards.specs.Plans.{Planned, candidate_of}
+use Rattle.boards.specs.Text.{accepted, accepted_among, board_of, boards_of, end_of, limited, needed_by, text_of}
 use Rattle.lanes.specs.Jobs.{verdicts_for}
 use Rattle.dealrun.specs.Pbn.{text}
 use Rattle.dealrun.specs.Plain.{IsPlain, plain_accepted, plain_text}

@@ -4,7 +4,7 @@ use Rattle.std.specs.List.{flat_map, range_with_len}
 use Rattle.lcg48.specs.Sequence.{seeded_state, state_after, state_at, step, value_of}
 use Rattle.sinks.specs.Appended.{append_known, AppendsAll, AppendsPart}
 use Rattle.dealrun.specs.Values.{line, lines}
-use Rattle.plans.proofs.Ranges.{flat_map-range_add, flat_map-range_more}
+use Rattle.boards.proofs.Ranges.{flat_map-range_add, flat_map-range_more}
 use Rattle.sinks.proofs.SinkLemmas.{append_known-append, whole_then_part}
 
 pub lines-none : (seed : ℕ) → lines seed 0 ≡ []

@@ -11,10 +11,10 @@ use Rattle.conditions.specs.Form.{Form}
 use Rattle.conditions.specs.Meaning.{holds}
 use Rattle.lanes.specs.declared.verdict.Verdict.{Verdict}
 use Rattle.lanes.specs.Verdicts.{verdict_of}
-use Rattle.plans.specs.Plans.{Planned, candidate_of}
-use Rattle.plans.specs.Text.{accepted_among, board_of, boards_of}
-use Rattle.plans.proofs.BoardLists.{accepted_among-more, accepted_among-none, boards_by, boards_by-append}
-use Rattle.plans.proofs.BoardLists.{boards_of-more, boards_of-none, length-boards_by, length-boards_of}
+use Rattle.boards.specs.Plans.{Planned, candidate_of}
+use Rattle.boards.specs.Text.{accepted_among, board_of, boards_of}
+use Rattle.boards.proofs.BoardLists.{accepted_among-more, accepted_among-none, boards_by, boards_by-append}
+use Rattle.boards.proofs.BoardLists.{boards_of-more, boards_of-none, length-boards_by, length-boards_of}
 use Rattle.dealrun.specs.MergedVerdicts.{boards_in}
 
 pub boards_in-none : (plan : Planned) → boards_in plan [] ≡ []

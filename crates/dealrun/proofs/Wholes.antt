@@ -7,7 +7,7 @@ use Rattle.lanes.specs.declared.verdict.Verdict.{Verdict}
 use Rattle.lanes.specs.Views.{OutView}
 use Rattle.lanes.proofs.Places.{turns_less}
 use Rattle.lanes.proofs.VerdictLists.{length-verdicts}
-use Rattle.plans.specs.Plans.{Planned, candidate_of}
+use Rattle.boards.specs.Plans.{Planned, candidate_of}
 use Rattle.dealrun.specs.Headline.{contents_of}
 use Rattle.dealrun.specs.internal.Joins.{AllWhole, ByNumber}
 use Rattle.dealrun.specs.internal.Writing.{held, KeepsLanes, TakenInTurn}

@@ -10,8 +10,8 @@ use Rattle.lanes.specs.declared.verdict.Verdict.{Verdict}
 use Rattle.lanes.specs.Verdicts.{turns}
 use Rattle.lanes.specs.Views.{OutView}
 use Rattle.lanes.specs.Prefixes.{IsPrefix}
-use Rattle.plans.specs.Plans.{Planned, candidate_of}
-use Rattle.plans.specs.Text.{accepted, end_of, text_in}
+use Rattle.boards.specs.Plans.{Planned, candidate_of}
+use Rattle.boards.specs.Text.{accepted, end_of, text_in}
 use Rattle.sinks.specs.Appended.{AppendsAll}
 use Rattle.lanes.specs.Jobs.{verdicts_for}
 

@@ -7,15 +7,15 @@ use Rattle.conditions.specs.Form.{Form}
 use Rattle.lanes.specs.Verdicts.{turns}
 use Rattle.lanes.specs.Views.{OutView}
 use Rattle.lanes.specs.Prefixes.{IsPrefix, IsProperPrefix}
-use Rattle.plans.specs.declared.cause.Cause.{Cause}
-use Rattle.plans.specs.declared.cause.Cause.TheVariants.{Memory, Spawn, Output, Stopped, Unclosed}
+use Rattle.boards.specs.declared.cause.Cause.{Cause}
+use Rattle.boards.specs.declared.cause.Cause.TheVariants.{Memory, Spawn, Output, Stopped, Unclosed}
 use Rattle.dealrun.specs.declared.runs.Counted.{Counted}
 use Rattle.dealrun.specs.declared.runs.Report.{Report}
 use Rattle.dealrun.specs.declared.runs.RunFault.{RunFault}
-use Rattle.plans.specs.Plans.{Planned, candidate_of}
+use Rattle.boards.specs.Plans.{Planned, candidate_of}
 use Rattle.sinks.specs.Appended.{AppendsAll, AppendsPart}
-use Rattle.plans.specs.Text.{accepted_among, accepted, boards_of, end_of}
-use Rattle.plans.specs.Text.{text_of_boards, text_of, text_in}
+use Rattle.boards.specs.Text.{accepted_among, accepted, boards_of, end_of}
+use Rattle.boards.specs.Text.{text_of_boards, text_of, text_in}
 use Rattle.dealrun.specs.Headline.{AllSettled, EachLane, TakesWhatIsOwed, contents_of}
 use Rattle.dealrun.specs.Headline.{for_each_worker}
 use Rattle.dealrun.specs.MergedVerdicts.{taken_in_all, boards_taken}

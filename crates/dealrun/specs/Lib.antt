@@ -2,9 +2,9 @@
 pub use Rattle.sinks.specs.Appended
 pub use Rattle.sinks.specs.Sinks
 pub use Rattle.sinks.specs.Fuses
-pub use Rattle.plans.specs.Plans
-pub use Rattle.plans.specs.Text
-pub use Rattle.plans.specs.Reference
+pub use Rattle.boards.specs.Plans
+pub use Rattle.boards.specs.Text
+pub use Rattle.boards.specs.Reference
 pub mod MergedVerdicts
 pub mod Headline
 pub mod Interrupted

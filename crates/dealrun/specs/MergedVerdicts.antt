@@ -5,8 +5,8 @@ use Rattle.std.specs.List.{range_with_len, filter_map, slice_get, enumerate_from
 use Rattle.boards.specs.declared.board.Board.{Board}
 use Rattle.lanes.specs.declared.verdict.Verdict.{Verdict}
 use Rattle.lanes.specs.Views.{OutView}
-use Rattle.plans.specs.Plans.{Planned}
-use Rattle.plans.specs.Text.{board_of}
+use Rattle.boards.specs.Plans.{Planned}
+use Rattle.boards.specs.Text.{board_of}
 
 -- the i-th verdict in turn: item i / W of list i % W
 abbrev pub at_turn : ℕ → List (List Verdict) → ℕ → Option Verdict

@@ -7,8 +7,8 @@ use Rattle.cards.specs.Candidates.{candidate}
 use Rattle.cards.specs.Fixed.{none_fixed}
 use Rattle.conditions.specs.Form.{Form}
 use Rattle.pbn_text.specs.Games.{game, header}
-use Rattle.plans.specs.Plans.{Planned}
-use Rattle.plans.specs.Text.{accepted_by}
+use Rattle.boards.specs.Plans.{Planned}
+use Rattle.boards.specs.Text.{accepted_by}
 
 pub record IsPlain (plan : Planned) : Type 0 where
   pub fixed_are : plan.fixed ≡ none_fixed

@@ -9,7 +9,7 @@ ghost use Rattle.dealrun.specs.internal.Causes.{cause_by};
 
 use crate::start::Started;
 use lanes::{LaneOut, WorkEnd};
-use plans::Cause;
+use boards::Cause;
 use std::thread::Threads;
 
 /// The least worker that was stopped, and the least whose lane was not closed.

@@ -21,7 +21,7 @@ mod values;
 mod writer;
 
 pub use pbn::{run, run_plain};
-pub use plans::{Cause, PlainFault, Plan, PlanError, run_plain_in};
+pub use boards::{Cause, PlainFault, Plan, PlanError, run_plain_in};
 pub use runs::{Counted, Report, RunFault, run_and_count, run_in};
 pub use sinks::{Fuse, MemSink, Piped, Sink, SinkFault, put_all};
 pub use values::stream;

@@ -4,15 +4,15 @@ ghost use Rattle.std.specs.Prelude.{◌≡◌, ◌-◌, ◌^◌, ◌<◌, length
 ghost use Rattle.pbn_text.specs.Games.{pbn};
 ghost use Rattle.dealrun.specs.Headline.{TakesWhatIsOwed, WritesTextIn};
 ghost use Rattle.dealrun.specs.Interrupted.{FailsAtOutput, StandsIn};
-ghost use Rattle.plans.specs.Reference.{WritesPlainIn};
+ghost use Rattle.boards.specs.Reference.{WritesPlainIn};
 ghost use Rattle.sinks.specs.Sinks.{CountsFault};
-ghost use Rattle.plans.specs.Text.{accepted};
+ghost use Rattle.boards.specs.Text.{accepted};
 
 use crate::runs::{Report, RunFault, out_of_memory, run_in};
 use conditions::Cond;
 use lanes::Gate;
 use pbn_text::{Printer, Reference};
-use plans::{PlainFault, Plan, run_plain_in};
+use boards::{PlainFault, Plan, run_plain_in};
 use sinks::Sink;
 use std::alloc::Global;
 use std::sync::{Arc, Wait};

@@ -5,11 +5,11 @@
 
 ghost use Rattle.std.specs.Prelude.{◌≡◌, ◌-◌, ◌^◌, ◌<◌, ◌≤◌, [], IfOk, vec_len};
 ghost use Rattle.conditions.specs.Form.{Form};
-ghost use Rattle.plans.specs.declared.cause.Cause.TheVariants.{Memory};
+ghost use Rattle.boards.specs.declared.cause.Cause.TheVariants.{Memory};
 ghost use Rattle.dealrun.specs.Headline.{TakesWhatIsOwed, WritesTextIn};
 ghost use Rattle.dealrun.specs.Interrupted.{FailsAtOutput, StandsIn};
 ghost use Rattle.dealrun.specs.Interrupted.{report_of};
-ghost use Rattle.plans.specs.Text.{end_of};
+ghost use Rattle.boards.specs.Text.{end_of};
 ghost use Rattle.dealrun.specs.internal.Ends.{EndsRun};
 ghost use Rattle.dealrun.specs.internal.Handles.{HaveLanes, owed_by};
 ghost use Rattle.dealrun.specs.internal.Joins.{Owes};
@@ -17,10 +17,9 @@ ghost use Rattle.dealrun.specs.internal.Joins.{Owes};
 use crate::join::{Written, cause_of, join_all};
 use crate::start::{Shared, Started, assign_all, start_all};
 use crate::writer::Writer;
-use boards::Notation;
+use boards::{Cause, Notation, Plan};
 use conditions::Cond;
 use lanes::{Gate, LaneOut};
-use plans::{Cause, Plan};
 use sinks::Sink;
 use std::alloc::Global;
 use std::sync::atomic::{AtomicBool, Ordering};

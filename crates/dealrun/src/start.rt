@@ -9,7 +9,7 @@ ghost use Rattle.dealrun.specs.internal.Handles.{IsIdle};
 
 use conditions::Cond;
 use lanes::{Gate, JobAround, LaneIn, LaneOut, Pace, WorkEnd, lane_in_blocks, work_around};
-use plans::Plan;
+use boards::Plan;
 use std::alloc::{AllocError, Global};
 use std::snapshot::Snapshot;
 use std::sync::atomic::AtomicBool;

@@ -3,9 +3,8 @@
 ghost use Rattle.std.specs.Prelude.{◌≡◌, ◌<◌, ◌≤◌, vec_len};
 
 use crate::join::Written;
-use boards::Notation;
+use boards::{Notation, Plan, is_full, put_board};
 use lanes::{LaneOut, Slot, Turns};
-use plans::{Plan, is_full, put_board};
 use sinks::{Sink, SinkFault, put_all};
 use std::sync::Wait;
 use std::sync::atomic::AtomicBool;

@@ -7,7 +7,7 @@ use Rattle.clap.specs.Walk.{Text}
 use Rattle.clap.specs.declared.error.Error.{Error}
 use Rattle.clap.specs.declared.error.kind.ErrorKind.{ErrorKind}
 use Rattle.clap.specs.declared.error.kind.ErrorKind.TheVariants.{OutOfMemory}
-use Rattle.plans.specs.declared.cause.Cause.TheVariants as cause
+use Rattle.boards.specs.declared.cause.Cause.TheVariants as cause
 use Rattle.jobs.specs.Failures.{is_refusal, status_of}
 use Rattle.jobs.specs.FirstRefusal.{IsDueFor}
 use Rattle.deals_cli.specs.Interruptions.{LeavesFrom}
@@ -20,7 +20,7 @@ use Rattle.jobs.specs.declared.failure.Failure.{Failure}
 use Rattle.jobs.specs.declared.failure.Failure.TheVariants.{CommandLine, Plan, Label, Hand, Definitions, Condition, Question, Cells, Interrupted}
 use Rattle.jobs.specs.declared.job.Job.{Job}
 use Rattle.jobs.specs.declared.job.Job.TheVariants.{Boards, Conditions, Count, Lessons, Stream}
-use Rattle.plans.specs.declared.report.Report.{Report}
+use Rattle.boards.specs.declared.report.Report.{Report}
 use Rattle.jobs.proofs.FirstDue.{output_due}
 use Rattle.jobs.proofs.Statuses.{no_memory, served}
 use Rattle.command_line.specs.CommandLine.{asked, kinds_for}

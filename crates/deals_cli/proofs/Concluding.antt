@@ -2,8 +2,8 @@
 use Rattle.std.proofs.Common.{◌≡◌, ◌∙◌, ◌⊎◌, ◌+◌, ◌==◌, ℕ, List, Option, None, Some, Result, Ok, Err, true, refl, sym, ap, subst, inl, inr, arith}
 use Rattle.std.specs.Prelude.{if◌then◌else◌}
 use Rattle.clap.specs.Walk.{Text}
-use Rattle.plans.specs.declared.cause.Cause.TheVariants as cause
-use Rattle.plans.specs.declared.report.Report.{Report}
+use Rattle.boards.specs.declared.cause.Cause.TheVariants as cause
+use Rattle.boards.specs.declared.report.Report.{Report}
 use Rattle.jobs.specs.Failures.{CountsInput, faults_in, is_untouched, status_in, status_of}
 use Rattle.jobs.specs.Statuses.{IsStatusWithInput}
 use Rattle.jobs.specs.declared.failure.Failure.{Failure}

@@ -7,8 +7,8 @@ use Rattle.boards.specs.Settings.{board_in, by_law}
 use Rattle.cards.specs.declared.seat.Seat.{Seat}
 use Rattle.cond_lang.specs.Form.{Form}
 use Rattle.dealrun.specs.Headline.{WritesTextIn}
-use Rattle.plans.specs.Plans.{Planned, candidate_of}
-use Rattle.plans.specs.Text.{accepted, board_of, boards_of, end_of, text_in}
+use Rattle.boards.specs.Plans.{Planned, candidate_of}
+use Rattle.boards.specs.Text.{accepted, board_of, boards_of, end_of, text_in}
 use Rattle.jobs.specs.Counting.{table_by}
 use Rattle.sinks.specs.Appended.{AppendsAll, append_known}
 use Rattle.statistics.specs.Counting.{Subject, count_text, counting, most_deals}

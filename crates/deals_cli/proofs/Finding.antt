@@ -12,13 +12,13 @@ use Rattle.boards.specs.declared.setting.Setting.{Setting}
 use Rattle.cards.specs.declared.seat.Seat.{Seat}
 use Rattle.conditions.specs.Form.{Form}
 use Rattle.conditions.specs.Meaning.{holds}
-use Rattle.plans.specs.Text.{accepted, accepted_among, board_of, boards_of, end_of, limited, needed_by, text_in, text_of}
+use Rattle.boards.specs.Text.{accepted, accepted_among, board_of, boards_of, end_of, limited, needed_by, text_in, text_of}
 use Rattle.input.specs.NumberTexts.{said}
 use Rattle.input.proofs.ReadBack.{read_back}
 use Rattle.notations.specs.Numbers.{number_line, numbers}
 use Rattle.input.specs.Picked.{picked_text}
-use Rattle.plans.specs.Plans.{Planned, candidate_of}
-use Rattle.plans.proofs.Ranges.{range_with_len-add}
+use Rattle.boards.specs.Plans.{Planned, candidate_of}
+use Rattle.boards.proofs.Ranges.{range_with_len-add}
 
 abbrev line_of : ℕ → List ℕ
 line_of n = decimal n ++ 10 ∷ []

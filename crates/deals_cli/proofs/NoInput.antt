@@ -2,9 +2,9 @@
 use Rattle.std.proofs.Common.{◌≡◌, ◌∙◌, ℕ, zero, suc, true, false, List, [], Option, None, Some, refl, sym, subst, inl, inr, arith}
 use Rattle.std.proofs.lemmas.List.{append-nil}
 use Rattle.clap.specs.Walk.{Text}
-use Rattle.plans.specs.declared.cause.Cause.TheVariants as cause
+use Rattle.boards.specs.declared.cause.Cause.TheVariants as cause
 use Rattle.input.specs.NumberTexts.{said}
-use Rattle.plans.specs.declared.refusal.RefusedLine.{RefusedLine}
+use Rattle.input.specs.declared.refused_line.RefusedLine.{RefusedLine}
 use Rattle.input.specs.declared.numbers.fault.PickFault.TheVariants.{Refused}
 use Rattle.jobs.specs.Failures.{status_of}
 use Rattle.deals_cli.specs.Interruptions.{EndsAtRecord, EndsFor}
@@ -17,7 +17,7 @@ use Rattle.jobs.specs.declared.failure.Failure.TheVariants.{CommandLine, Plan, L
 use Rattle.jobs.specs.declared.failure.Failure.TheVariants.{Question, Cells, Interrupted, Line, Record, Input}
 use Rattle.jobs.specs.declared.failure.Failure.TheVariants.{EndOfInput}
 use Rattle.jobs.specs.Makings.{plan_of}
-use Rattle.plans.specs.Plans.{Planned}
+use Rattle.boards.specs.Plans.{Planned}
 use Rattle.input.specs.TricksPicked.{text_picks}
 use Rattle.jobs.specs.Statuses.{IsStatus, IsStatusWithInput, parts_of}
 use Rattle.deals_cli.specs.Program.{IsStatusOfNone, MayFail, MayLeave, TellsWhy, TellsWhyFrom}

@@ -2,8 +2,8 @@
 use Rattle.std.proofs.Common.{◌≡◌, ◌∙◌, ℕ, List, length, Option, refl, ap, subst}
 use Rattle.boards.specs.Layouts.{Layout}
 use Rattle.cond_lang.specs.Form.{Form}
-use Rattle.plans.specs.Plans.{Planned, candidate_of}
-use Rattle.plans.specs.Text.{accepted, boards_of, end_of, needed_by, text_in}
+use Rattle.boards.specs.Plans.{Planned, candidate_of}
+use Rattle.boards.specs.Text.{accepted, boards_of, end_of, needed_by, text_in}
 use Rattle.std.proofs.Common.{All, map}
 use Rattle.cards.specs.Deals.{IsPartition}
 use Rattle.dealrun.specs.Headline.{WritesTextIn}

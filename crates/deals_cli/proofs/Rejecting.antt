@@ -13,10 +13,10 @@ use Rattle.lanes.specs.Jobs.{verdicts_for}
 use denote.RawPtr.{null_ptr}
 use Rattle.lanes.specs.Views.{OutView, Ring}
 use Rattle.lanes.proofs.VerdictLists.{length-verdicts}
-use Rattle.plans.specs.declared.cause.Cause.TheVariants.{Output}
-use Rattle.plans.specs.Plans.{Planned, candidate_of}
-use Rattle.plans.specs.Text.{accepted_among, boards_of, text_of_boards}
-use Rattle.plans.proofs.BoardLists.{accepted_among-more, accepted_among-none, boards_of-none, text_of_boards-none}
+use Rattle.boards.specs.declared.cause.Cause.TheVariants.{Output}
+use Rattle.boards.specs.Plans.{Planned, candidate_of}
+use Rattle.boards.specs.Text.{accepted_among, boards_of, text_of_boards}
+use Rattle.boards.proofs.BoardLists.{accepted_among-more, accepted_among-none, boards_of-none, text_of_boards-none}
 use Rattle.sinks.specs.Appended.{AppendsAll, AppendsPart, append_known}
 use Rattle.dealrun.specs.Headline.{contents_of}
 use Rattle.dealrun.specs.Interrupted.{InterruptedIn}

@@ -1,15 +1,15 @@
 -- What is said of a wish that was done.
 use Rattle.std.proofs.Common.{◌≡◌, ◌∙◌, ◌++◌, ℕ, Bool, true, false, List, Option, None, Some, refl, sym, ap, ap₂}
 use Rattle.cond_lang.specs.Form.{Form}
-use Rattle.plans.specs.Plans.{Planned}
+use Rattle.boards.specs.Plans.{Planned}
 use Rattle.sinks.specs.Appended.{AppendsAll, append_known}
 use Rattle.jobs.specs.Makings.{plan_of}
 use Rattle.deals_cli.specs.Reported.{Counts, Reports, ReportsFor, wants_report}
-use Rattle.plans.specs.Reports.{next_line, report_line, report_of}
+use Rattle.boards.specs.Reports.{next_line, report_line, report_of}
 use Rattle.requests.specs.Requests.{Look, Search, Wish, make}
 use Rattle.requests.specs.declared.request.Notices.{Notices}
 use Rattle.boards.specs.declared.format.Format.{Format}
-use Rattle.plans.specs.declared.report.Report.{Report}
+use Rattle.boards.specs.declared.report.Report.{Report}
 
 same_text : (format : Format) (plan : Planned) (form : Form) (r : Report) → Counts format plan form r
     → report_line r.plan r.candidates r.boards ++ next_line r.format r.plan r.candidates r.boards ≡ report_of format plan form

@@ -3,8 +3,8 @@ use Rattle.std.proofs.Common.{◌≡◌, ◌⊎◌, ℕ, List, Option, None, Som
 use Rattle.cond_lang.specs.Form.{Form}
 use Rattle.jobs.specs.Makings.{Means}
 use Rattle.dealrun.specs.Values.{lines}
-use Rattle.plans.specs.declared.cause.Cause.{Cause}
-use Rattle.plans.specs.declared.cause.Cause.TheVariants.{Memory, Spawn, Output, Stopped, Unclosed}
+use Rattle.boards.specs.declared.cause.Cause.{Cause}
+use Rattle.boards.specs.declared.cause.Cause.TheVariants.{Memory, Spawn, Output, Stopped, Unclosed}
 use Rattle.jobs.specs.Failures.{is_untouched}
 use Rattle.deals_cli.specs.Interruptions.{EndsTold, InterruptsCount, InterruptsMake, LeavesFrom}
 use Rattle.jobs.specs.Jobs.{IsReady}
@@ -17,11 +17,11 @@ use Rattle.jobs.specs.declared.boards_job.BoardsJob.{BoardsJob}
 use Rattle.jobs.specs.declared.count_job.CountJob.{CountJob}
 use Rattle.jobs.specs.declared.job.PickJob.{PickJob}
 use Rattle.jobs.specs.declared.job.Job.TheVariants.{Boards, Conditions, Count, Lessons, Pick, Seed, Stream}
-use Rattle.plans.specs.declared.report.Report.{Report}
+use Rattle.boards.specs.declared.report.Report.{Report}
 use Rattle.requests.specs.declared.request.StreamRequest.{StreamRequest}
 use Rattle.deals_cli.specs.internal.Ends.{EndsBoards, EndsCount, EndsDraw, EndsPicking, EndsReady}
 use Rattle.deals_cli.specs.WithTricks.{BreaksTold, FailsTold, StopsAtLine}
-use Rattle.plans.specs.declared.refusal.RefusedLine.{RefusedLine}
+use Rattle.input.specs.declared.refused_line.RefusedLine.{RefusedLine}
 use Rattle.input.specs.declared.numbers.fault.PickFault.{PickFault}
 use Rattle.input.specs.declared.numbers.fault.PickFault.TheVariants.{Refused, Input as PickInput}
 use Rattle.jobs.proofs.FirstDue.{count_run_due, run_due}

@@ -1,6 +1,6 @@
 -- From how boards of the input were shown to what is promised of a `show`.
 use Rattle.std.proofs.Common.{◌≡◌, ◌∙◌, ℕ, List, Option, None, Result, Ok, Err, refl, inl, inr}
-use Rattle.plans.specs.declared.cause.Cause.TheVariants.{Memory, Output}
+use Rattle.boards.specs.declared.cause.Cause.TheVariants.{Memory, Output}
 use Rattle.jobs.specs.Jobs.{IsReady}
 use Rattle.jobs.specs.declared.failure.Failure.{Failure}
 use Rattle.jobs.specs.declared.failure.Failure.TheVariants.{Interrupted, Record, Input}

@@ -5,8 +5,8 @@ use Rattle.boards.specs.declared.style.Style.TheVariants.{Csv}
 use Rattle.cards.specs.declared.seat.Seat.{Seat}
 use Rattle.conditions.specs.Form.{Form}
 use Rattle.jobs.specs.Counting.{table_by}
-use Rattle.plans.specs.Plans.{Planned, candidate_of}
-use Rattle.plans.specs.Text.{accepted, end_of}
+use Rattle.boards.specs.Plans.{Planned, candidate_of}
+use Rattle.boards.specs.Text.{accepted, end_of}
 use Rattle.statistics.specs.Counting.{Subject, count_text, csv_text}
 use Rattle.statistics.specs.Shards.{AddUp}
 use Rattle.statistics.proofs.Shards.{adds_up}

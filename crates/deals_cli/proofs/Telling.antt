@@ -6,12 +6,12 @@ use Rattle.notations.specs.Numbers.{numbers}
 use Rattle.input.specs.NumberTexts.{said}
 use Rattle.input.specs.declared.numbers.fault.PickFault.{PickFault}
 use Rattle.input.specs.declared.numbers.fault.PickFault.TheVariants as picks
-use Rattle.plans.specs.Plans.{Planned}
-use Rattle.plans.specs.Text.{accepted, end_of, text_in}
-use Rattle.plans.specs.declared.cause.Cause.{Cause}
-use Rattle.plans.specs.declared.cause.Cause.TheVariants.{Memory, Spawn, Output, Stopped, Unclosed}
-use Rattle.plans.specs.declared.refusal.RefusedLine.{RefusedLine}
-use Rattle.plans.specs.declared.report.Report.{Report}
+use Rattle.boards.specs.Plans.{Planned}
+use Rattle.boards.specs.Text.{accepted, end_of, text_in}
+use Rattle.boards.specs.declared.cause.Cause.{Cause}
+use Rattle.boards.specs.declared.cause.Cause.TheVariants.{Memory, Spawn, Output, Stopped, Unclosed}
+use Rattle.input.specs.declared.refused_line.RefusedLine.{RefusedLine}
+use Rattle.boards.specs.declared.report.Report.{Report}
 use Rattle.jobs.specs.Jobs.{IsReadyRun}
 use Rattle.jobs.specs.declared.boards_job.BoardsJob.{BoardsJob}
 use Rattle.jobs.specs.declared.failure.Failure.TheVariants.{Interrupted, Line, Input}

@@ -2,11 +2,11 @@
 use Rattle.std.specs.Prelude.{ℕ, List}
 use Rattle.boards.specs.Layouts.{Layout}
 use Rattle.cond_lang.specs.Form.{Form}
-use Rattle.plans.specs.Text.{text_in}
+use Rattle.boards.specs.Text.{text_in}
 use Rattle.notations.specs.Formats.{layout_of, layout_showing}
 use Rattle.boards.specs.declared.show.Show.{Show}
 use Rattle.boards.specs.declared.format.Format.{Format}
-use Rattle.plans.specs.Plans.{Planned}
+use Rattle.boards.specs.Plans.{Planned}
 use Rattle.boards.specs.Headings.{HeadingView}
 use Rattle.jobs.specs.Makings.{title_of}
 use Rattle.requests.specs.Requests.{Look}

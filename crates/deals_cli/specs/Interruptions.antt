@@ -1,8 +1,8 @@
 -- What is on the output of a wish that wasn't done to its end.
 use Rattle.std.specs.Prelude.{◌≡◌, ◌⊎◌, ℕ, Bool, List, [], Err, IsSomeAnd, Option, Some, false, true}
 use Rattle.cond_lang.specs.Form.{Form}
-use Rattle.plans.specs.declared.cause.Cause.{Cause}
-use Rattle.plans.specs.declared.cause.Cause.TheVariants.{Memory}
+use Rattle.boards.specs.declared.cause.Cause.{Cause}
+use Rattle.boards.specs.declared.cause.Cause.TheVariants.{Memory}
 use Rattle.input.specs.FourBytes.{EndsBefore}
 use Rattle.input.specs.declared.numbers.fault.PickFault.{PickFault}
 use Rattle.input.specs.declared.numbers.fault.PickFault.TheVariants as picks

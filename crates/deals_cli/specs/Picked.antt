@@ -7,7 +7,7 @@ use Rattle.boards.specs.declared.show.Show.{Show}
 use Rattle.notations.specs.Formats.{layout_showing}
 use Rattle.input.specs.Outcomes.{Picks}
 use Rattle.input.specs.declared.numbers.fault.PickFault.{PickFault}
-use Rattle.plans.specs.Plans.{Planned}
+use Rattle.boards.specs.Plans.{Planned}
 use Rattle.input.specs.TricksPicked.{text_picks}
 use Rattle.input.specs.Told.{TellsBy}
 

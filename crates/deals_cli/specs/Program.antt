@@ -6,7 +6,7 @@ use Rattle.clap.specs.Kinds.{IsAmong}
 use Rattle.clap.specs.Walk.{Text}
 use Rattle.clap.specs.declared.error.kind.ErrorKind.{ErrorKind}
 use Rattle.clap.specs.declared.error.kind.ErrorKind.TheVariants as kind
-use Rattle.plans.specs.declared.cause.Cause.TheVariants.{Memory, Output}
+use Rattle.boards.specs.declared.cause.Cause.TheVariants.{Memory, Output}
 use Rattle.sinks.specs.Appended.{AppendsAll}
 use Rattle.jobs.specs.Failures.{is_refusal, is_untouched, status_of}
 use Rattle.jobs.specs.FirstRefusal.{IsDueFor}
@@ -16,7 +16,7 @@ use Rattle.deals_cli.specs.Reported.{Reports, ReportsFor, wants_report}
 use Rattle.jobs.specs.Jobs.{IsReady, ReadsInput}
 use Rattle.requests.specs.Requests.{Look, Search, Wish, make}
 use Rattle.jobs.specs.Statuses.{parts_of}
-use Rattle.plans.specs.declared.report.Report.{Report}
+use Rattle.boards.specs.declared.report.Report.{Report}
 use Rattle.requests.specs.declared.request.Notices.{Notices}
 use Rattle.jobs.specs.declared.failure.Failure.{Failure}
 use Rattle.jobs.specs.declared.failure.Failure.TheVariants.{Interrupted, Input}

@@ -2,17 +2,17 @@
 use Rattle.std.specs.Prelude.{◌≡◌, ℕ, Bool, List, ◌++◌, length, Option, None, Some, true, false}
 use Rattle.std.specs.Prelude.{Result, Ok, Err}
 use Rattle.cond_lang.specs.Form.{Form}
-use Rattle.plans.specs.Text.{accepted, end_of}
-use Rattle.plans.specs.Plans.{Planned}
+use Rattle.boards.specs.Text.{accepted, end_of}
+use Rattle.boards.specs.Plans.{Planned}
 use Rattle.jobs.specs.Makings.{Means, plan_of}
-use Rattle.plans.specs.Reports.{next_line, report_line, report_of}
+use Rattle.boards.specs.Reports.{next_line, report_line, report_of}
 use Rattle.jobs.specs.Lines.{line_of}
 use Rattle.jobs.specs.declared.failure.Failure.{Failure}
 use Rattle.sinks.specs.Appended.{AppendsAll}
 use Rattle.boards.specs.declared.format.Format.{Format}
 use Rattle.requests.specs.Requests.{Look, Search, Wish, make}
 use Rattle.requests.specs.declared.request.Notices.{Notices}
-use Rattle.plans.specs.declared.report.Report.{Report}
+use Rattle.boards.specs.declared.report.Report.{Report}
 
 -- the counts of a plan's run under a condition: the candidates are those up to the one whose board
 -- met the limit, or all; the boards are those of the accepted ones

@@ -3,9 +3,9 @@ use Rattle.std.specs.Prelude.{ℕ, List, Option}
 use Rattle.boards.specs.Layouts.{Layout}
 use Rattle.cond_lang.specs.Form.{Form}
 use Rattle.dealrun.specs.Interrupted.{InterruptedIn}
-use Rattle.plans.specs.declared.cause.Cause.{Cause}
+use Rattle.boards.specs.declared.cause.Cause.{Cause}
 use Rattle.lanes.specs.Views.{OutView}
-use Rattle.plans.specs.Plans.{Planned}
+use Rattle.boards.specs.Plans.{Planned}
 
 -- a run was interrupted for this cause: there are lanes as it left them, and the bytes are those
 -- that the verdicts taken from them print

@@ -8,7 +8,7 @@ use Rattle.requests.specs.Requests.{Wish}
 use Rattle.deals_cli.specs.Interruptions.{LeavesFrom}
 use Rattle.deals_cli.specs.Reported.{ReportsFor}
 use Rattle.deals_cli.specs.Wishes.{AppendsFrom}
-use Rattle.plans.specs.declared.report.Report.{Report}
+use Rattle.boards.specs.declared.report.Report.{Report}
 
 -- a wish was done, or failed: `before` and `after` are what the input had to give before and
 -- after it, `old` and `new` what the output had taken

@@ -3,12 +3,12 @@
 use Rattle.std.specs.Prelude.{◌≡◌, ℕ, List, [], Option, Some, Result, Ok, Err}
 use Rattle.cond_lang.specs.Form.{Form}
 use Rattle.notations.specs.Numbers.{numbers}
-use Rattle.plans.specs.declared.cause.Cause.{Cause}
-use Rattle.plans.specs.declared.cause.Cause.TheVariants.{Output}
+use Rattle.boards.specs.declared.cause.Cause.{Cause}
+use Rattle.boards.specs.declared.cause.Cause.TheVariants.{Output}
 use Rattle.input.specs.declared.numbers.fault.PickFault.{PickFault}
 use Rattle.input.specs.declared.numbers.fault.PickFault.TheVariants as picks
-use Rattle.plans.specs.declared.refusal.RefusedLine.{RefusedLine}
-use Rattle.plans.specs.Text.{accepted}
+use Rattle.input.specs.declared.refused_line.RefusedLine.{RefusedLine}
+use Rattle.boards.specs.Text.{accepted}
 use Rattle.jobs.specs.Makings.{AreWorkers, plan_of, title_of}
 use Rattle.requests.specs.Requests.{Look, Search}
 use Rattle.deals_cli.specs.Runs.{InterruptsRun}

@@ -5,7 +5,7 @@ ghost use Rattle.jobs.specs.Failures.{status_in};
 ghost use Rattle.deals_cli.specs.Reported.{Says, SaysReport};
 
 use jobs::Failure;
-use plans::Report;
+use boards::Report;
 use sinks::Sink;
 
 /// Says the report, if there is one.

@@ -15,7 +15,7 @@ use crate::task::{perform, prepare};
 use command_line::read_words;
 use input::{NoBytes, Source};
 use jobs::Failure;
-use plans::Report;
+use boards::Report;
 use sinks::Sink;
 use std::alloc::Global;
 use std::sync::Wait;

@@ -22,7 +22,7 @@ pub use command_line::{laws as examples, read_words};
 pub use ending::conclude;
 pub use entry::{program, program_with_input};
 pub use jobs::{BoardsJob, CountJob, Failure, Job, PickJob, ShowJob, planned};
-pub use plans::Report;
+pub use boards::Report;
 pub use requests::{
     Format, LabelName, Look, Notices, QuestionName, Questions, Request, Search, Show,
     StreamRequest, Style, When, Workers,

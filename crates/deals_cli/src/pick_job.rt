@@ -8,7 +8,7 @@ use input::Source;
 use input::numbers::PickFault;
 use jobs::{Failure, PickJob};
 use notations::AnyPrinter;
-use plans::Cause;
+use boards::Cause;
 use sinks::Sink;
 use std::alloc::{AllocError, Global};
 

@@ -5,8 +5,7 @@ ghost use Rattle.cond_lang.specs.Form.{Form};
 ghost use Rattle.deals_cli.specs.internal.Ends.{AcceptsNone, EndsWritten, FaultsOfRun};
 
 use crate::written::BoardsWritten;
-use boards::Notation;
-use plans::{Cause, Plan};
+use boards::{Cause, Notation, Plan};
 use sinks::{Sink, put_all};
 
 /// Writes what a run over all candidates of the plan writes if none is accepted, and deals none.

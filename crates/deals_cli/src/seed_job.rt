@@ -8,7 +8,7 @@ ghost use Rattle.sinks.specs.Sinks.{AppendsOrBreaksOff, CountsFault};
 use input::{BytesFault, Source, read_four};
 use itoa::Buffer;
 use jobs::Failure;
-use plans::Cause;
+use boards::Cause;
 use sinks::{Sink, SinkFault, put_all};
 
 /// Writes the number that the next four bytes of the input are, the lowest first. What was written

@@ -19,7 +19,7 @@ use cond_lang::LANGUAGE;
 use input::Source;
 use jobs::{BoardsJob, CountJob, Failure, Job};
 use notations::AnyPrinter;
-use plans::{Cause, Report};
+use boards::{Cause, Report};
 use sinks::{Sink, SinkFault, put_all};
 use statistics::Counter;
 use std::alloc::Global;

@@ -5,12 +5,11 @@ ghost use Rattle.jobs.specs.Failures.{CountsInput, faults_in, status_of};
 ghost use Rattle.deals_cli.specs.Shown.{expects, labelled, labels_told};
 ghost use Rattle.deals_cli.specs.internal.Ends.{CountsShown, EndsShowing, EndsShown, FaultsShown};
 
-use boards::Captions;
+use boards::{Captions, Cause};
 use input::Source;
 use input::records::{BoardReader, Next, ReadFault, ShowFault, show};
 use jobs::{Failure, ShowJob};
 use notations::SolvedPrinter;
-use plans::Cause;
 use sinks::Sink;
 use std::alloc::{AllocError, Global};
 

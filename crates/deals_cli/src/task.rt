@@ -17,7 +17,7 @@ use command_line::shown_text;
 use dealrun::Cause;
 use input::Source;
 use jobs::{Failure, Job};
-use plans::Report;
+use boards::Report;
 use requests::Request;
 use sinks::{Sink, put_all};
 use std::alloc::Global;

@@ -8,14 +8,13 @@ ghost use Rattle.deals_cli.specs.internal.Ends.{EndsFinding, EndsReady, finding_
 
 use crate::workers::worked;
 use crate::written::{BoardsWritten, write_plan};
-use boards::{Captions, Format};
+use boards::{Captions, Cause, Format, Plan, Report};
 use cond_lang::Cond;
 use input::Source;
 use input::numbers::PickFault;
 use input::tricks::{numbers_of, tell};
 use jobs::{BoardsJob, Failure};
 use notations::AnyPrinter;
-use plans::{Cause, Plan, Report};
 use requests::Workers;
 use sinks::{MemSink, Sink};
 use std::alloc::Global;

@@ -4,7 +4,7 @@ ghost use Rattle.std.specs.Prelude.{◌≡◌, ◌-◌, max, min};
 ghost use Rattle.requests.specs.Defaults.{workers_in};
 ghost use Rattle.deals_cli.specs.internal.Ends.{IsWorked};
 
-use plans::Plan;
+use boards::Plan;
 use requests::Workers;
 use std::thread::{self, Threads};
 

@@ -4,11 +4,10 @@ ghost use Rattle.std.specs.Prelude.{◌≡◌, ◌-◌, ◌^◌, ◌<◌, []};
 ghost use Rattle.deals_cli.specs.internal.Ends.{EndsWritten, FaultsOfRun};
 
 use crate::rejected::write_no_board;
-use boards::Notation;
+use boards::{Cause, Notation, Plan};
 use cond_lang::Cond;
 use dealrun::run_and_count;
 use lanes::OpenGate;
-use plans::{Cause, Plan};
 use screens::unmet::is_never;
 use sinks::Sink;
 use std::alloc::Global;

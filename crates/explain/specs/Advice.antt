@@ -12,8 +12,8 @@ use Rattle.requests.specs.HandRules.{rule_of}
 use Rattle.requests.specs.PredealtHands.{before, given_at, is_refused_at}
 use Rattle.requests.specs.declared.hand_fault.HandFault.{HandFault}
 use Rattle.sinks.specs.Shown.{shown}
-use Rattle.plans.specs.declared.plan.PlanError.{PlanError}
-use Rattle.plans.specs.declared.plan.PlanError.TheVariants as plan
+use Rattle.boards.specs.declared.plan.PlanError.{PlanError}
+use Rattle.boards.specs.declared.plan.PlanError.TheVariants as plan
 use Rattle.requests.specs.Defaults.{candidates_of, first_board_of, lane_of, workers_in}
 use Rattle.requests.specs.Requests.{Look, Search}
 use Rattle.jobs.specs.declared.failure.Failure.{Failure}

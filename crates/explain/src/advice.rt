@@ -8,11 +8,10 @@ ghost use Rattle.explain.specs.Advice.{label_advice, label_rule, plan_advice, ra
 ghost use Rattle.explain.specs.Advice.{seat_option, shown_text, text_line};
 ghost use Rattle.requests.specs.Requests.{look_of, search_of};
 
-use boards::{Format, MAX_CAPTION_CHARS, MAX_LABEL_LEN};
+use boards::{Format, MAX_CAPTION_CHARS, MAX_LABEL_LEN, PlanError};
 use cards::{MAX_CANDIDATES, MAX_CAPACITY, MAX_WORKERS, Seat};
 use itoa::Buffer;
 use jobs::Failure;
-use plans::PlanError;
 use requests::{LabelName, Look, Search};
 use sinks::put_shown;
 use std::alloc::{AllocError, Global};

@@ -4,16 +4,16 @@ use Rattle.std.proofs.Common.{ap, subst, append_assoc, length-append}
 use Rattle.std.proofs.lemmas.List.{append-nil}
 use Rattle.boards.specs.declared.board.Board.{Board}
 use Rattle.boards.specs.Layouts.{Layout}
-use Rattle.plans.specs.Text.{board_of, boards_of, text_of}
-use Rattle.plans.proofs.BoardLists.{boards_of-more, boards_of-none, text_of-append, text_of-more, text_of-none}
+use Rattle.boards.specs.Text.{board_of, boards_of, text_of}
+use Rattle.boards.proofs.BoardLists.{boards_of-more, boards_of-none, text_of-append, text_of-more, text_of-none}
 use Rattle.input.specs.NumberTexts.{Said, said}
 use Rattle.input.specs.Scans.{HasScanned, ScannerView, after, said_from}
-use Rattle.plans.specs.declared.refusal.RefusedLine.{RefusedLine}
+use Rattle.input.specs.declared.refused_line.RefusedLine.{RefusedLine}
 use Rattle.input.specs.Outcomes.{PicksOf}
 use Rattle.input.specs.Picked.{footer_of, picked_text}
 use Rattle.input.specs.internal.Picking.{PickedAll, PickedSoFar}
 use Rattle.input.specs.declared.numbers.fault.PickFault.TheVariants.{Refused, Input, Output}
-use Rattle.plans.specs.Plans.{Planned, candidate_of}
+use Rattle.boards.specs.Plans.{Planned, candidate_of}
 use Rattle.sinks.specs.Appended.{AppendsAll, AppendsPart, append_known}
 use Rattle.sinks.proofs.SinkLemmas.{append_known-append, append_known-nil, whole_then_part}
 

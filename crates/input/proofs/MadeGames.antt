@@ -21,8 +21,8 @@ use Rattle.boards.proofs.Rotating.{partition}
 use Rattle.cards.specs.Candidates.{state_before}
 use Rattle.cards.specs.Fixed.{IsFixed}
 use Rattle.cards.proofs.AroundDeals.{around_is_partition}
-use Rattle.plans.specs.Plans.{Planned, candidate_of}
-use Rattle.plans.specs.Text.{board_of, boards_of, text_of, text_of_boards}
+use Rattle.boards.specs.Plans.{Planned, candidate_of}
+use Rattle.boards.specs.Text.{board_of, boards_of, text_of, text_of_boards}
 use Rattle.std.specs.List.{enumerate_from}
 use Rattle.input.specs.Games.{game_says, no_game, or_next, with_tag}
 use Rattle.input.specs.Kinds.{kind_of}

@@ -4,8 +4,8 @@ use Rattle.std.specs.Prelude.{Err, Ok, Result}
 use Rattle.std.proofs.lemmas.Bool.{and_right, or_parts}
 use Rattle.input.specs.NumberTexts.{Said, ended, first_line, has_lf, later_lines, line_says, lines_say, said, starts_with_lf, with_lf, with_line}
 use Rattle.input.specs.Scans.{HasScanned, ScannerView, list_of}
-use Rattle.plans.specs.declared.refusal.LineFault.{LineFault}
-use Rattle.plans.specs.declared.refusal.RefusedLine.{RefusedLine}
+use Rattle.input.specs.declared.refused_line.LineFault.{LineFault}
+use Rattle.input.specs.declared.refused_line.RefusedLine.{RefusedLine}
 use Rattle.input.proofs.TellSteps.{ended-none}
 
 no_start : (xs : List ℕ) → has_lf xs ≡ false → starts_with_lf xs ≡ false

@@ -13,8 +13,8 @@ use Rattle.input.specs.declared.numbers.fault.PickFault.{PickFault}
 use Rattle.input.specs.declared.numbers.fault.PickFault.TheVariants.{Refused, Input, Output}
 use Rattle.input.proofs.LineEnds.{line_alone, line_ends, no_lf_cr}
 use Rattle.input.proofs.Scanned.{has_lf-other}
-use Rattle.plans.specs.Plans.{Planned}
-use Rattle.plans.specs.declared.refusal.LineFault.{LineFault}
+use Rattle.boards.specs.Plans.{Planned}
+use Rattle.input.specs.declared.refused_line.LineFault.{LineFault}
 use Rattle.sinks.specs.Appended.{AppendsAll, AppendsPart, append_known}
 use Rattle.sinks.proofs.SinkLemmas.{append_known-append}
 use Rattle.input.specs.TricksPicked.{line_tells, lines_pick, text_picks, with_line}

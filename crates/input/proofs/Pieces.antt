@@ -7,7 +7,7 @@ use Rattle.std.proofs.KnownBytes.{Consumes-kept, Consumes-nil, Consumes-trans}
 use Rattle.std.specs.Io.KnownBytes.{Consumes, IsAtEnd, Keeps}
 use Rattle.boards.specs.declared.board.Board.{Board}
 use Rattle.boards.specs.Layouts.{Layout}
-use Rattle.plans.specs.Plans.{Planned}
+use Rattle.boards.specs.Plans.{Planned}
 use Rattle.input.specs.Outcomes.{Picks, PicksOf}
 use Rattle.input.specs.internal.Picking.{PickedFrom, PickedSoFar}
 use Rattle.input.specs.Scans.{ScannerView}

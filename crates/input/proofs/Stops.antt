@@ -8,8 +8,8 @@ use Rattle.input.specs.Scans.{HasScanned, ScannerView, after, digits_and, goes_o
 use Rattle.input.specs.internal.Lines.{start_of_line}
 use Rattle.input.specs.declared.numbers.line.NumberPart.{NumberPart}
 use Rattle.input.specs.declared.numbers.line.NumberPart.TheVariants.{Blank, Digits, Over}
-use Rattle.plans.specs.declared.refusal.LineFault.TheVariants.{NotANumber}
-use Rattle.plans.specs.declared.refusal.RefusedLine.{RefusedLine}
+use Rattle.input.specs.declared.refused_line.LineFault.TheVariants.{NotANumber}
+use Rattle.input.specs.declared.refused_line.RefusedLine.{RefusedLine}
 use Rattle.input.proofs.Scanned.{scanned_line}
 
 -- a CR within a line is refused

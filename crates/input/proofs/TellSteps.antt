@@ -18,10 +18,10 @@ use Rattle.input.specs.internal.LineEnds.{without_cr}
 use Rattle.input.specs.declared.numbers.fault.PickFault.{PickFault}
 use Rattle.input.specs.declared.numbers.fault.PickFault.TheVariants.{Refused, Input, Output}
 use Rattle.input.proofs.LineEnds.{line_alone, line_ends, long_line}
-use Rattle.plans.specs.Plans.{Planned, candidate_of}
-use Rattle.plans.specs.Text.{board_of}
-use Rattle.plans.specs.declared.refusal.LineFault.{LineFault}
-use Rattle.plans.specs.declared.refusal.LineFault.TheVariants.{Missing, MoreThanBoards, NotTricks}
+use Rattle.boards.specs.Plans.{Planned, candidate_of}
+use Rattle.boards.specs.Text.{board_of}
+use Rattle.input.specs.declared.refused_line.LineFault.{LineFault}
+use Rattle.input.specs.declared.refused_line.LineFault.TheVariants.{Missing, MoreThanBoards, NotTricks}
 use Rattle.sinks.specs.Appended.{AppendsAll, AppendsPart, append_known}
 use Rattle.sinks.proofs.SinkLemmas.{append_known-append, append_known-nil, whole_then_part}
 use Rattle.input.specs.Lines.{before_deal, deal_value, has_deal, if_same, told_of}

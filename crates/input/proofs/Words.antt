@@ -8,10 +8,10 @@ use Rattle.std.proofs.lemmas.Bool.{and_parts, ltb-false, or_from, or_parts}
 use Rattle.std.proofs.lemmas.Grind.{common_steps}
 use Rattle.input.specs.NumberTexts.{are_digits, has_lf, is_blank, line_says, number_of, unless_blank, without_first_blanks, without_last_blanks}
 use Rattle.input.specs.internal.LineEnds.{without_cr}
-use Rattle.plans.specs.Plans.{Planned, candidate_of}
-use Rattle.plans.specs.Text.{board_of}
-use Rattle.plans.specs.declared.refusal.LineFault.{LineFault}
-use Rattle.plans.specs.declared.refusal.LineFault.TheVariants.{NotANumber, NotTricks, TooMany}
+use Rattle.boards.specs.Plans.{Planned, candidate_of}
+use Rattle.boards.specs.Text.{board_of}
+use Rattle.input.specs.declared.refused_line.LineFault.{LineFault}
+use Rattle.input.specs.declared.refused_line.LineFault.TheVariants.{NotANumber, NotTricks, TooMany}
 use Rattle.std.specs.Str.Parse.{digits_value}
 use Rattle.input.specs.TricksPicked.{behind_word, board_by, first_word, line_tells}
 use Rattle.input.specs.Told.{Solved}

@@ -7,8 +7,8 @@ use Rattle.std.specs.List.{list_all}
 use Rattle.boards.specs.TricksLines.{TricksView, told}
 use Rattle.cards.specs.declared.seat.Seat.{Seat}
 use Rattle.pbn_text.specs.Games.{deal_text}
-use Rattle.plans.specs.declared.refusal.LineFault.{LineFault}
-use Rattle.plans.specs.declared.refusal.LineFault.TheVariants.{NotTricks, OtherDeal}
+use Rattle.input.specs.declared.refused_line.LineFault.{LineFault}
+use Rattle.input.specs.declared.refused_line.LineFault.TheVariants.{NotTricks, OtherDeal}
 
 -- a rank as games write it, the dot between suits, or the blank between hands
 abbrev pub is_of_deal : ℕ → Bool

@@ -4,9 +4,9 @@ use Rattle.std.specs.Prelude.{List, [], ◌∷◌, Option, None, Some, Result, O
 use Rattle.std.specs.Prelude.{if◌then◌else◌}
 use Rattle.std.specs.Char.{is_ascii_digit}
 use Rattle.std.specs.Str.Parse.{digits_value}
-use Rattle.plans.specs.declared.refusal.LineFault.{LineFault}
-use Rattle.plans.specs.declared.refusal.LineFault.TheVariants.{NotANumber, NotBelow, TooMany}
-use Rattle.plans.specs.declared.refusal.RefusedLine.{RefusedLine}
+use Rattle.input.specs.declared.refused_line.LineFault.{LineFault}
+use Rattle.input.specs.declared.refused_line.LineFault.TheVariants.{NotANumber, NotBelow, TooMany}
+use Rattle.input.specs.declared.refused_line.RefusedLine.{RefusedLine}
 
 -- ---- lines
 

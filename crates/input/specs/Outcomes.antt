@@ -3,12 +3,12 @@ use Rattle.std.specs.Prelude.{◌≡◌, ℕ, ◌+◌, List, length, Option, Non
 use Rattle.std.specs.Prelude.{OnOk}
 use Rattle.std.specs.Io.KnownBytes.{Consumes, IsAtEnd}
 use Rattle.boards.specs.Layouts.{Layout}
-use Rattle.plans.specs.Text.{text_of}
+use Rattle.boards.specs.Text.{text_of}
 use Rattle.input.specs.NumberTexts.{ended, said}
 use Rattle.input.specs.Picked.{picked_text}
 use Rattle.input.specs.declared.numbers.fault.PickFault.{PickFault}
 use Rattle.input.specs.declared.numbers.fault.PickFault.TheVariants.{Refused, Input, Output}
-use Rattle.plans.specs.Plans.{Planned}
+use Rattle.boards.specs.Plans.{Planned}
 use Rattle.sinks.specs.Appended.{AppendsAll, AppendsPart}
 
 -- what was appended, by the bytes that the input gave

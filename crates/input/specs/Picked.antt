@@ -1,10 +1,10 @@
 -- The text that is written for a text of numbers.
 use Rattle.std.specs.Prelude.{ℕ, List, [], ◌++◌, length, Option, None, Some}
 use Rattle.boards.specs.Layouts.{Layout}
-use Rattle.plans.specs.Text.{boards_of, text_of}
+use Rattle.boards.specs.Text.{boards_of, text_of}
 use Rattle.input.specs.NumberTexts.{Said}
-use Rattle.plans.specs.declared.refusal.RefusedLine.{RefusedLine}
-use Rattle.plans.specs.Plans.{Planned}
+use Rattle.input.specs.declared.refused_line.RefusedLine.{RefusedLine}
+use Rattle.boards.specs.Plans.{Planned}
 
 -- the footer, of as many candidates as there are numbers; there is none where a line is refused
 abbrev pub footer_of : Layout → Planned → List ℕ → Option RefusedLine → List ℕ

@@ -9,8 +9,8 @@ use Rattle.input.specs.NumberTexts.{lines_say, number_in, said, with_lf, with_li
 use Rattle.input.specs.NumberTexts.{without_last_blanks}
 use Rattle.input.specs.declared.numbers.line.NumberPart.{NumberPart}
 use Rattle.input.specs.declared.numbers.line.NumberPart.TheVariants.{Blank, Digits, Over}
-use Rattle.plans.specs.declared.refusal.LineFault.{LineFault}
-use Rattle.plans.specs.declared.refusal.LineFault.TheVariants.{NotANumber}
+use Rattle.input.specs.declared.refused_line.LineFault.{LineFault}
+use Rattle.input.specs.declared.refused_line.LineFault.TheVariants.{NotANumber}
 
 -- how far a line was read: this many digits, and the number that they write
 pub record LineView : Type 0 where

@@ -14,11 +14,11 @@ use Rattle.input.specs.TextLines.{text_lines}
 use Rattle.input.specs.Outcomes.{FaultsOf, InputFaultsOf}
 use Rattle.input.specs.declared.numbers.fault.PickFault.{PickFault}
 use Rattle.input.specs.declared.numbers.fault.PickFault.TheVariants.{Refused, Input, Output}
-use Rattle.plans.specs.Plans.{Planned, candidate_of}
-use Rattle.plans.specs.Text.{board_of}
-use Rattle.plans.specs.declared.refusal.LineFault.{LineFault}
-use Rattle.plans.specs.declared.refusal.LineFault.TheVariants.{Missing, MoreThanBoards}
-use Rattle.plans.specs.declared.refusal.RefusedLine.{RefusedLine}
+use Rattle.boards.specs.Plans.{Planned, candidate_of}
+use Rattle.boards.specs.Text.{board_of}
+use Rattle.input.specs.declared.refused_line.LineFault.{LineFault}
+use Rattle.input.specs.declared.refused_line.LineFault.TheVariants.{Missing, MoreThanBoards}
+use Rattle.input.specs.declared.refused_line.RefusedLine.{RefusedLine}
 use Rattle.sinks.specs.Appended.{AppendsAll, AppendsPart}
 use Rattle.input.specs.Lines.{told_of}
 

@@ -6,10 +6,10 @@ use Rattle.boards.specs.declared.board.Board.{Board}
 use Rattle.boards.specs.TricksLines.{TricksView}
 use Rattle.input.specs.NumberTexts.{is_blank, line_says, without_first_blanks}
 use Rattle.input.specs.TextLines.{text_lines}
-use Rattle.plans.specs.Plans.{Planned, candidate_of}
-use Rattle.plans.specs.Text.{board_of}
-use Rattle.plans.specs.declared.refusal.LineFault.{LineFault}
-use Rattle.plans.specs.declared.refusal.LineFault.TheVariants.{TooMany}
+use Rattle.boards.specs.Plans.{Planned, candidate_of}
+use Rattle.boards.specs.Text.{board_of}
+use Rattle.input.specs.declared.refused_line.LineFault.{LineFault}
+use Rattle.input.specs.declared.refused_line.LineFault.TheVariants.{TooMany}
 use Rattle.input.specs.Lines.{told_of}
 use Rattle.input.specs.Told.{Solved, Told, after, refused_after}
 

@@ -8,8 +8,10 @@
 mod four_bytes;
 pub mod numbers;
 pub mod records;
+mod refused_line;
 mod source;
 pub mod tricks;
 
 pub use four_bytes::{BytesFault, read_four};
+pub use refused_line::{LineFault, RefusedLine};
 pub use source::{MOST_BYTES, NoBytes, Reader, Source, SourceFault};

@@ -12,5 +12,4 @@ mod scanner;
 
 pub use fault::PickFault;
 pub use picked::pick;
-pub use plans::{LineFault, RefusedLine};
 pub use scanner::NumberScanner;

@@ -8,11 +8,11 @@ use Rattle.cond_lang.specs.After.{IsDueAlone}
 use Rattle.cond_lang.specs.Form.{Form}
 use Rattle.conditions.specs.declared.error.CondError.{CondError}
 use Rattle.conditions.specs.declared.error.CondError.TheVariants.{TooLong, Byte, Word, Number, Syntax, TooManyParts, Memory as no_memory}
-use Rattle.plans.specs.declared.cause.Cause.{Cause}
-use Rattle.plans.specs.declared.cause.Cause.TheVariants as cause
-use Rattle.plans.specs.Refusals.{refusal_of}
-use Rattle.plans.specs.declared.plan.PlanError.{PlanError}
-use Rattle.plans.specs.declared.plan.PlanError.TheVariants.{Range, Workers, Capacity, Boards, FirstBoard}
+use Rattle.boards.specs.declared.cause.Cause.{Cause}
+use Rattle.boards.specs.declared.cause.Cause.TheVariants as cause
+use Rattle.boards.specs.Refusals.{refusal_of}
+use Rattle.boards.specs.declared.plan.PlanError.{PlanError}
+use Rattle.boards.specs.declared.plan.PlanError.TheVariants.{Range, Workers, Capacity, Boards, FirstBoard}
 use Rattle.jobs.specs.Failures.{definitions_failure, failure_of, is_refusal, status_of}
 use Rattle.jobs.specs.FirstRefusal.{AreDue, AreRefused, HasCondition, IsCountDue, IsDueFor, IsDueRead, IsFirstHand}
 use Rattle.jobs.specs.FirstRefusal.{IsFirstOf, IsMakeDue, IsPickDue, IsPlanDue, IsShowDue, IsTextDue, IsTricksDue}

@@ -9,7 +9,7 @@ use Rattle.jobs.specs.Makings.{AreGiven, MayBeGiven, TextMeans}
 use Rattle.cond_lang.specs.After.{GivesNames}
 use Rattle.jobs.specs.Statuses.{IsStatusWithInput}
 use Rattle.jobs.specs.declared.failure.Failure.{Failure}
-use Rattle.plans.specs.declared.cause.Cause.TheVariants as cause
+use Rattle.boards.specs.declared.cause.Cause.TheVariants as cause
 use Rattle.jobs.specs.declared.failure.Failure.TheVariants.{CommandLine, Plan, Label, Hand, Definitions, Condition, Question, Cells, Interrupted}
 
 pub refused_status : (e : CondError) → (status_of (failure_of e) ≡ 5) ⊎ (status_of (failure_of e) ≡ 3)

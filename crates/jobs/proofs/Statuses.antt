@@ -1,7 +1,7 @@
 -- What the statuses say of a wish.
 use Rattle.std.proofs.Common.{◌≡◌, ◌⊎◌, ℕ, refl, inl, inr, arith}
-use Rattle.plans.specs.declared.cause.Cause.{Cause}
-use Rattle.plans.specs.declared.cause.Cause.TheVariants as cause
+use Rattle.boards.specs.declared.cause.Cause.{Cause}
+use Rattle.boards.specs.declared.cause.Cause.TheVariants as cause
 use Rattle.jobs.specs.Failures.{status_of}
 use Rattle.requests.specs.Requests.{Wish}
 use Rattle.jobs.specs.Statuses.{IsStatusOf, parts_of}

@@ -5,8 +5,8 @@ use Rattle.cond_lang.specs.Form.{Form}
 use Rattle.cond_lang.specs.Questions.{parts_asked}
 use Rattle.conditions.specs.declared.limits.TheConstants.{MOST_PARTS}
 use Rattle.jobs.specs.Makings.{text_read}
-use Rattle.plans.specs.Plans.{Planned, candidate_of}
-use Rattle.plans.specs.Text.{accepted, end_of}
+use Rattle.boards.specs.Plans.{Planned, candidate_of}
+use Rattle.boards.specs.Text.{accepted, end_of}
 use Rattle.requests.specs.Requests.{Questions, each_question, no_question, one_question}
 use Rattle.requests.specs.Requests.{two_questions}
 use Rattle.statistics.specs.Counting.{Asked, Subject, by_each, by_one, by_two, cells_of}

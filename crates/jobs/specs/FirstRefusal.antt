@@ -7,10 +7,10 @@ use Rattle.cond_lang.specs.Faults.{IsDue}
 use Rattle.cond_lang.specs.Form.{Form}
 use Rattle.conditions.specs.declared.error.CondError.{CondError}
 use Rattle.conditions.specs.declared.error.CondError.TheVariants.{Memory as no_memory}
-use Rattle.plans.specs.declared.cause.Cause.TheVariants.{Memory, Output}
+use Rattle.boards.specs.declared.cause.Cause.TheVariants.{Memory, Output}
 use Rattle.requests.specs.PredealtHands.{first_refused}
-use Rattle.plans.specs.declared.plan.PlanError.TheVariants.{Range, Workers, Capacity, Boards}
-use Rattle.plans.specs.declared.plan.PlanError.TheVariants.{FirstBoard}
+use Rattle.boards.specs.declared.plan.PlanError.TheVariants.{Range, Workers, Capacity, Boards}
+use Rattle.boards.specs.declared.plan.PlanError.TheVariants.{FirstBoard}
 use Rattle.jobs.specs.Counting.{Asks, IsAsked, IsQuestion}
 use Rattle.jobs.specs.Makings.{CanDate, CanLabel, HasLabels, HasNumbers}
 use Rattle.requests.specs.Defaults.{candidates_of, first_board_of}

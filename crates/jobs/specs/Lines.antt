@@ -4,13 +4,13 @@ use Rattle.cards.specs.declared.seat.Seat.{Seat}
 use Rattle.cards.specs.declared.seat.Seat.TheVariants as seat
 use Rattle.conditions.specs.declared.error.CondError.{CondError}
 use Rattle.conditions.specs.declared.error.CondError.TheVariants as cond
-use Rattle.plans.specs.declared.cause.Cause.{Cause}
-use Rattle.plans.specs.declared.cause.Cause.TheVariants as cause
-use Rattle.plans.specs.declared.refusal.LineFault.{LineFault}
-use Rattle.plans.specs.declared.refusal.LineFault.TheVariants as fault
-use Rattle.plans.specs.declared.refusal.RefusedLine.{RefusedLine}
-use Rattle.plans.specs.declared.plan.PlanError.{PlanError}
-use Rattle.plans.specs.declared.plan.PlanError.TheVariants as plan
+use Rattle.boards.specs.declared.cause.Cause.{Cause}
+use Rattle.boards.specs.declared.cause.Cause.TheVariants as cause
+use Rattle.input.specs.declared.refused_line.LineFault.{LineFault}
+use Rattle.input.specs.declared.refused_line.LineFault.TheVariants as fault
+use Rattle.input.specs.declared.refused_line.RefusedLine.{RefusedLine}
+use Rattle.boards.specs.declared.plan.PlanError.{PlanError}
+use Rattle.boards.specs.declared.plan.PlanError.TheVariants as plan
 use Rattle.jobs.specs.declared.failure.Failure.{Failure}
 use Rattle.jobs.specs.declared.failure.Failure.TheVariants as failure
 use Rattle.input.specs.declared.records.fault.RecordFault.{RecordFault}

@@ -13,7 +13,7 @@ use Rattle.boards.specs.Labels.{IsDate, IsLabel}
 use Rattle.boards.specs.declared.format.Format.{Format}
 use Rattle.boards.specs.declared.format.Format.TheVariants.{Pbn}
 use Rattle.boards.specs.Captions.{captions_in, is_caption, labels_of}
-use Rattle.plans.specs.Plans.{Planned}
+use Rattle.boards.specs.Plans.{Planned}
 use Rattle.requests.specs.Defaults.{candidates_of, first_board_of, lane_of, workers_in}
 use Rattle.requests.specs.Requests.{Look, Search}
 use Rattle.requests.specs.declared.workers.Workers.{Workers}

@@ -3,9 +3,8 @@
 ghost use Rattle.std.specs.Prelude.{◌≡◌};
 ghost use Rattle.requests.specs.Defaults.{workers_in};
 
-use boards::{Captions, Format, Show};
+use boards::{Captions, Format, Plan, Show};
 use cond_lang::Cond;
-use plans::Plan;
 use requests::Workers;
 
 /// A run: the boards of the accepted ones among a plan's candidates.

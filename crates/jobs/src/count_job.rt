@@ -6,9 +6,8 @@ ghost use Rattle.requests.specs.Defaults.{workers_in};
 ghost use Rattle.statistics.specs.Counting.{cells_of};
 ghost use Rattle.statistics.specs.Subjects.{subject_of};
 
-use boards::Style;
+use boards::{Plan, Style};
 use cond_lang::Cond;
-use plans::Plan;
 use requests::Workers;
 use statistics::Subject;
 

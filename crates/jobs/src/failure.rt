@@ -3,7 +3,7 @@
 ghost use Rattle.std.specs.Prelude.{◌≡◌, ◌-◌, ◌^◌, ◌<◌, OnOk};
 ghost use Rattle.sinks.specs.Appended.{AppendsAll};
 ghost use Rattle.sinks.specs.Sinks.{CountsFault};
-ghost use Rattle.plans.specs.declared.cause.Cause.TheVariants.{Memory, Output};
+ghost use Rattle.boards.specs.declared.cause.Cause.TheVariants.{Memory, Output};
 ghost use Rattle.jobs.specs.Failures.{definitions_failure, failure_of, question_failure};
 ghost use Rattle.jobs.specs.Failures.{status_of};
 ghost use Rattle.jobs.specs.Lines.{cause_line, condition_line, fault_text, hand_line};
@@ -16,7 +16,8 @@ ghost use Rattle.sinks.specs.Messages.{text_of};
 use cards::Seat;
 use cond_lang::CondError;
 use input::records::{RecordFault, RefusedRecord};
-use plans::{Cause, LineFault, PlanError, RefusedLine};
+use input::{LineFault, RefusedLine};
+use boards::{Cause, PlanError};
 use requests::{LabelName, QuestionName};
 use sinks::{Message, Sink, SinkFault};
 use std::alloc::AllocError;

@@ -18,10 +18,9 @@ ghost use Rattle.cards.specs.Fixed.{none_fixed};
 ghost use Rattle.boards.specs.Headings.{no_heading};
 
 use crate::failure::Failure;
-use boards::{Caption, Captions, Date, Format, Label, Setting};
+use boards::{Caption, Captions, Date, Format, Label, Plan, PlanError, Setting};
 use cards::Fixed;
 use cond_lang::{Cond, CondError, check_definitions, parse, parse_after};
-use plans::{Plan, PlanError};
 use requests::{LabelName, Look, Search};
 use std::alloc::Global;
 

@@ -7,7 +7,7 @@ use Rattle.lanes.specs.declared.job.Job.{Job}
 use Rattle.lanes.specs.declared.job.JobAround.{JobAround}
 use Rattle.lanes.specs.Verdicts.{verdicts}
 use Rattle.conditions.specs.Form.{Form}
-use Rattle.plans.specs.Plans.{Planned, candidate_of}
+use Rattle.boards.specs.Plans.{Planned, candidate_of}
 
 abbrev pub verdicts_of : Job → List Verdict
 verdicts_of job =

@@ -6,7 +6,7 @@ ghost use Rattle.lanes.specs.Jobs.{verdicts_around, verdicts_for};
 use crate::share::Share;
 use cards::Fixed;
 use conditions::Cond;
-use plans::Plan;
+use boards::Plan;
 use std::alloc::AllocError;
 
 /// What a worker is to do: judge its share of the seed's candidates by the condition.

@@ -3,7 +3,7 @@
 use crate::support::same;
 use dealrun::{Cause, MemSink};
 use deals_cli::Failure;
-use input::numbers::{LineFault, RefusedLine};
+use input::{LineFault, RefusedLine};
 
 /// A refused line of the input is named, with what is wrong with it.
 fn of_line(fault: LineFault) -> Failure {

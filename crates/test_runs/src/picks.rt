@@ -1,11 +1,11 @@
 //! Lines of LIN that were worked out by hand, of two candidates of seed 0, picked by their numbers.
 
 use crate::support::{equals, holds};
-use boards::Captions;
-use input::numbers::{LineFault, PickFault, RefusedLine, pick};
+use boards::{Captions, Plan};
+use input::numbers::{PickFault, pick};
+use input::{LineFault, RefusedLine};
 use input::{NoBytes, Reader};
 use notations::{AnyPrinter, Format};
-use plans::Plan;
 use sinks::{Fuse, MemSink};
 use std::alloc::{AllocError, AllocGlobal};
 use std::io::{Error, ErrorKind, Read, Result};

@@ -6,7 +6,7 @@ use crate::support::{equals, holds};
 use cards::{Candidates, Fixed, Seat};
 use cond_lang::{Cond, parse};
 use lanes::{JobAround, LaneIn, LaneOut, OpenGate, WorkEnd, lane, work_around};
-use plans::Plan;
+use boards::Plan;
 use std::alloc::Global;
 use std::process::Abort;
 use std::sync::atomic::AtomicBool;

@@ -1,7 +1,8 @@
 //! Texts of numbers, and what they say.
 
 use crate::support::same;
-use input::numbers::{LineFault, NumberScanner, RefusedLine};
+use input::numbers::NumberScanner;
+use input::{LineFault, RefusedLine};
 use input::{NoBytes, Reader, Source, SourceFault};
 use std::alloc::{AllocError, Global};
 use std::io::{self, Error, ErrorKind, Read};

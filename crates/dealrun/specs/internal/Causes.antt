@@ -1,8 +1,8 @@
 -- Why a run is interrupted: by what was written beside its workers, the least worker that was
 -- stopped, and the least whose lane was not closed.
 use Rattle.std.specs.Prelude.{ℕ, Option, None, Some}
-use Rattle.plans.specs.declared.cause.Cause.{Cause}
-use Rattle.plans.specs.declared.cause.Cause.TheVariants as cause
+use Rattle.boards.specs.declared.cause.Cause.{Cause}
+use Rattle.boards.specs.declared.cause.Cause.TheVariants as cause
 use Rattle.dealrun.specs.declared.join.Written.{Written}
 use Rattle.dealrun.specs.declared.join.Written.TheVariants.{Failed, Full, Open}
 

@@ -3,14 +3,14 @@ use Rattle.std.specs.Prelude.{ℕ, ◌≡◌, ◌≤◌, List, Option, Result, M
 use Rattle.boards.specs.Layouts.{Layout}
 use Rattle.conditions.specs.Form.{Form}
 use Rattle.lanes.specs.Views.{OutView}
-use Rattle.plans.specs.Plans.{Planned}
-use Rattle.plans.specs.Text.{end_of}
+use Rattle.boards.specs.Plans.{Planned}
+use Rattle.boards.specs.Text.{end_of}
 use Rattle.dealrun.specs.Interrupted.{InterruptedIn, StandsCompleteIn, footer_taken}
 use Rattle.dealrun.specs.Headline.{TakesWhatIsOwed, WritesTextIn}
 use Rattle.dealrun.specs.declared.runs.Counted.{Counted}
 use Rattle.dealrun.specs.declared.runs.RunFault.{RunFault}
 use Rattle.dealrun.specs.declared.writer.Writer.{Writer}
-use Rattle.plans.specs.declared.cause.Cause.TheVariants.{Output}
+use Rattle.boards.specs.declared.cause.Cause.TheVariants.{Output}
 
 -- the whole text was written; this many candidates are needed
 pub record Closes (layout : Layout) (plan : Planned) (form : Form) (lanes : List OutView)

@@ -9,7 +9,7 @@ use Rattle.lanes.specs.declared.worker.WorkEnd.{WorkEnd}
 use Rattle.lanes.specs.declared.worker.WorkEnd.TheVariants.{Done, Stopped, Unclosed}
 use Rattle.lanes.specs.Prefixes.{IsPrefix, IsProperPrefix}
 use Rattle.conditions.specs.Form.{Form}
-use Rattle.plans.specs.Plans.{Planned}
+use Rattle.boards.specs.Plans.{Planned}
 use Rattle.lanes.specs.Jobs.{verdicts_for}
 use Rattle.dealrun.specs.Headline.{contents_of}
 

@@ -3,17 +3,17 @@ use Rattle.std.specs.Prelude.{◌≡◌, ◌⊎◌, ◌≤◌, ◌<◌, ◌^◌,
 use Rattle.std.specs.Prelude.{Result, Ok, Err, false}
 use Rattle.dealrun.specs.Headline.{WritesTextIn}
 use Rattle.dealrun.specs.Interrupted.{FaultsAfter}
-use Rattle.plans.specs.declared.cause.Cause.{Cause}
-use Rattle.plans.specs.declared.cause.Cause.TheVariants.{Memory, Output, Spawn}
+use Rattle.boards.specs.declared.cause.Cause.{Cause}
+use Rattle.boards.specs.declared.cause.Cause.TheVariants.{Memory, Output, Spawn}
 use Rattle.boards.specs.Layouts.{Layout}
 use Rattle.notations.specs.Formats.{layout_showing}
 use Rattle.cond_lang.specs.Meaning.{holds}
-use Rattle.plans.specs.Plans.{Planned, candidate_of}
-use Rattle.plans.specs.Text.{accepted, end_of}
+use Rattle.boards.specs.Plans.{Planned, candidate_of}
+use Rattle.boards.specs.Text.{accepted, end_of}
 use Rattle.jobs.specs.Makings.{AreWorkers, plan_of}
 use Rattle.requests.specs.Requests.{Look, Search}
 use Rattle.cond_lang.specs.Form.{Form}
-use Rattle.plans.specs.declared.refusal.RefusedLine.{RefusedLine}
+use Rattle.input.specs.declared.refused_line.RefusedLine.{RefusedLine}
 use Rattle.deals_cli.specs.Wishes.{IsDrawn, seed_text}
 use Rattle.deals_cli.specs.WithTricks.{BreaksTold, FailsTold, StopsAtLine, WritesTold}
 use Rattle.deals_cli.specs.declared.tricks_job.FoundNumbers.{FoundNumbers}
@@ -41,7 +41,7 @@ use Rattle.jobs.specs.declared.boards_job.BoardsJob.{BoardsJob}
 use Rattle.jobs.specs.declared.count_job.CountJob.{CountJob}
 use Rattle.jobs.specs.declared.job.PickJob.{PickJob}
 use Rattle.jobs.specs.declared.job.ShowJob.{ShowJob}
-use Rattle.plans.specs.declared.report.Report.{Report}
+use Rattle.boards.specs.declared.report.Report.{Report}
 use Rattle.deals_cli.specs.declared.written.BoardsWritten.{BoardsWritten}
 use Rattle.sinks.specs.Appended.{AppendsAll, AppendsPart}
 use Rattle.input.specs.Told.{FaultsIn, InputFaultsIn}

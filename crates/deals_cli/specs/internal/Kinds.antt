@@ -2,7 +2,7 @@
 use Rattle.std.specs.Prelude.{◌≡◌, ◌≢◌, false}
 use Rattle.clap.specs.declared.error.kind.ErrorKind.{ErrorKind}
 use Rattle.clap.specs.declared.error.kind.ErrorKind.TheVariants.{OutOfMemory}
-use Rattle.plans.specs.declared.cause.Cause.TheVariants.{Memory}
+use Rattle.boards.specs.declared.cause.Cause.TheVariants.{Memory}
 use Rattle.deals_cli.specs.Program.{is_shown}
 use Rattle.jobs.specs.declared.failure.Failure.{Failure}
 use Rattle.jobs.specs.declared.failure.Failure.TheVariants.{CommandLine, Interrupted}

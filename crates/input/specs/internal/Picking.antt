@@ -3,12 +3,12 @@ use Rattle.std.specs.Prelude.{◌≡◌, ℕ, List, ◌++◌, Option, None, leng
 use Rattle.std.specs.Io.KnownBytes.{Consumes}
 use Rattle.boards.specs.declared.board.Board.{Board}
 use Rattle.boards.specs.Layouts.{Layout}
-use Rattle.plans.specs.Text.{boards_of, text_of}
+use Rattle.boards.specs.Text.{boards_of, text_of}
 use Rattle.input.specs.NumberTexts.{said}
 use Rattle.input.specs.Outcomes.{FaultsOf, InputFaultsOf, PicksOf}
 use Rattle.input.specs.Scans.{HasScanned, ScannerView}
 use Rattle.input.specs.declared.numbers.fault.PickFault.{PickFault}
-use Rattle.plans.specs.Plans.{Planned}
+use Rattle.boards.specs.Plans.{Planned}
 use Rattle.sinks.specs.Appended.{AppendsAll}
 
 -- these bytes were scanned, and the boards of their numbers were written, by a notation that has

@@ -11,9 +11,9 @@ use Rattle.input.specs.declared.numbers.fault.PickFault.TheVariants.{Output}
 use Rattle.boards.specs.TricksLines.{TricksView}
 use Rattle.cards.specs.declared.seat.Seat.{Seat}
 use Rattle.notations.specs.Formats.{footer_of}
-use Rattle.plans.specs.Plans.{Planned}
-use Rattle.plans.specs.declared.refusal.LineFault.{LineFault}
-use Rattle.plans.specs.declared.refusal.LineFault.TheVariants.{Missing, NotTricks}
+use Rattle.boards.specs.Plans.{Planned}
+use Rattle.input.specs.declared.refused_line.LineFault.{LineFault}
+use Rattle.input.specs.declared.refused_line.LineFault.TheVariants.{Missing, NotTricks}
 use Rattle.sinks.specs.Appended.{AppendsAll, AppendsPart}
 use Rattle.input.specs.Lines.{told_of}
 use Rattle.input.specs.Told.{Solved, Tells, Written, after, boards_text, lines_tell, text_tells}

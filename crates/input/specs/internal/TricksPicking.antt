@@ -7,8 +7,8 @@ use Rattle.input.specs.NumberTexts.{ended, has_lf, is_blank}
 use Rattle.input.specs.TextLines.{text_lines}
 use Rattle.input.specs.internal.LineEnds.{without_cr}
 use Rattle.input.specs.declared.numbers.fault.PickFault.{PickFault}
-use Rattle.plans.specs.Plans.{Planned}
-use Rattle.plans.specs.declared.refusal.LineFault.{LineFault}
+use Rattle.boards.specs.Plans.{Planned}
+use Rattle.input.specs.declared.refused_line.LineFault.{LineFault}
 use Rattle.sinks.specs.Appended.{AppendsAll}
 use Rattle.input.specs.TricksPicked.{lines_pick, text_picks}
 use Rattle.input.specs.Told.{Solved, TellsBy, Told, Written, after, boards_text}

@@ -4,7 +4,7 @@ ghost use Rattle.std.specs.Prelude.{◌≡◌};
 ghost use Rattle.input.specs.declared.numbers.fault.PickFault.TheVariants.{Input};
 
 use crate::source::SourceFault;
-use plans::RefusedLine;
+use crate::refused_line::RefusedLine;
 
 /// Why picking ended before the end of the input, or of what it says.
 #[derive(Clone, Copy, Debug, PartialEq, Eq)]

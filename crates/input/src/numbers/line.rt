@@ -4,10 +4,10 @@ ghost use Rattle.std.specs.Prelude.{◌≡◌, ◌+◌, ◌*◌, ◌<◌, ℕ, L
 ghost use Rattle.input.specs.declared.numbers.line.NumberPart.TheVariants.{Digits};
 ghost use Rattle.input.specs.Scans.{line_from};
 ghost use Rattle.input.specs.internal.Lines.{start_of_line};
-ghost use Rattle.plans.specs.declared.refusal.LineFault.TheVariants.{NotANumber};
+ghost use Rattle.input.specs.declared.refused_line.LineFault.TheVariants.{NotANumber};
 
 use cards::MAX_CANDIDATES;
-use plans::LineFault;
+use crate::refused_line::LineFault;
 use std::marker::Model;
 
 /// The most digits that a number has.

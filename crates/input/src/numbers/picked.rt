@@ -6,9 +6,8 @@ ghost use Rattle.input.specs.Outcomes.{FaultsOf, InputFaultsOf, Picks};
 use crate::numbers::fault::PickFault;
 use crate::numbers::scanner::NumberScanner;
 use crate::source::{MOST_BYTES, Source};
-use boards::Notation;
+use boards::{Notation, Plan, put_board};
 use cards::DealsByNumber;
-use plans::{Plan, put_board};
 use sinks::{Sink, SinkFault, put_all};
 
 /// How many bytes are read at once.
@@ -33,8 +32,8 @@ impl NumberPicker {
     ghost use Rattle.boards.specs.declared.board.Board.{Board};
     ghost use Rattle.input.specs.Scans.{HasScanned};
     ghost use Rattle.input.specs.internal.Picking.{Ends, EndsWith, FaultsIn, Takes};
-    ghost use Rattle.plans.specs.Plans.{candidate_of};
-    ghost use Rattle.plans.specs.Text.{board_of};
+    ghost use Rattle.boards.specs.Plans.{candidate_of};
+    ghost use Rattle.boards.specs.Text.{board_of};
     ghost use Rattle.sinks.specs.Sinks.{AppendsOrBreaksOff, CountsFault};
 
     /// Returns a picker that has read nothing.

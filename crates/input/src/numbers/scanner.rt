@@ -8,7 +8,7 @@ ghost use Rattle.input.specs.internal.Lines.{start_of_line};
 
 use crate::numbers::line::NumberLine;
 use cards::MAX_CANDIDATES;
-use plans::{LineFault, RefusedLine};
+use crate::refused_line::{LineFault, RefusedLine};
 use std::marker::Model;
 
 /// The most numbers that are read.

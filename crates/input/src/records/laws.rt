@@ -5,8 +5,8 @@ ghost use Rattle.boards.specs.declared.board.Board.{Board as ABoard};
 ghost use Rattle.boards.specs.Headings.{HeadingView};
 ghost use Rattle.pbn_text.specs.Games.{pbn};
 ghost use Rattle.cards.specs.Fixed.{IsFixed};
-ghost use Rattle.plans.specs.Plans.{Planned};
-ghost use Rattle.plans.specs.Text.{boards_of, text_of, text_of_boards};
+ghost use Rattle.boards.specs.Plans.{Planned};
+ghost use Rattle.boards.specs.Text.{boards_of, text_of, text_of_boards};
 ghost use Rattle.input.specs.Made.{IsHeading, IsMade, all_read};
 ghost use Rattle.input.specs.Texts.{spelled};
 

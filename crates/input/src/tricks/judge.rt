@@ -8,7 +8,7 @@ ghost use Rattle.input.specs.Lines.{has_deal, if_same, is_deal_end, is_of_deal, 
 use boards::Tricks;
 use cards::Deal;
 use pbn_text::deal_text;
-use plans::LineFault;
+use crate::refused_line::LineFault;
 
 /// How many bytes the end of a line has that names a deal.
 const END: usize = 70;

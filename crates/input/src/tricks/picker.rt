@@ -12,10 +12,10 @@ use crate::tricks::line::{LineEnd, TricksLine, read_text};
 use crate::tricks::teller::{put_board, put_end, refused, without_cr};
 use crate::tricks::word::{number_in, split_word};
 use crate::{MOST_BYTES, Source};
-use boards::{Board, Notation, Tricks};
+use boards::{Board, Notation, Plan, Tricks, board_after};
 use cards::{DealsByNumber, MAX_CANDIDATES};
 use notations::AnyPrinter;
-use plans::{LineFault, Plan, board_after};
+use crate::refused_line::LineFault;
 use sinks::{Sink, put_all};
 
 /// No input has so many lines.

@@ -2,8 +2,8 @@
 
 ghost use Rattle.std.specs.Prelude.{◌≡◌, ◌+◌, ◌-◌, ◌<◌, ◌≤◌, ◌^◌, ◌∷◌, [], ℕ, All, List, Option};
 ghost use Rattle.std.specs.Prelude.{false, length, true};
-ghost use Rattle.plans.specs.Plans.{Planned, candidate_of};
-ghost use Rattle.plans.specs.Text.{board_of};
+ghost use Rattle.boards.specs.Plans.{Planned, candidate_of};
+ghost use Rattle.boards.specs.Text.{board_of};
 ghost use Rattle.sinks.specs.Sinks.{AppendsOrBreaksOff, CountsFault};
 ghost use Rattle.input.specs.declared.numbers.fault.PickFault.TheVariants.{Refused};
 ghost use Rattle.input.specs.internal.LineEnds.{without_cr};
@@ -17,10 +17,10 @@ use crate::numbers::PickFault;
 use crate::tricks::judge::judge;
 use crate::tricks::line::{LineEnd, TricksLine, read_line};
 use crate::{MOST_BYTES, Source};
-use boards::{Board, Notation, Tricks};
+use boards::{Board, Notation, Plan, Tricks, board_after};
 use cards::{Deal, DealsByNumber};
 use notations::AnyPrinter;
-use plans::{LineFault, Plan, RefusedLine, board_after};
+use crate::refused_line::{LineFault, RefusedLine};
 use sinks::{Sink, SinkFault, put_all};
 
 /// No input has so many lines.

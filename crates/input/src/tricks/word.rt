@@ -5,7 +5,7 @@ ghost use Rattle.input.specs.NumberTexts.{has_lf, is_blank, line_says};
 ghost use Rattle.input.specs.TricksPicked.{behind_word, first_word};
 
 use crate::numbers::NumberScanner;
-use plans::LineFault;
+use crate::refused_line::LineFault;
 
 /// Whether the byte is a space or a tab.
 pub(crate) fn is_blank(byte: u8) -> bool

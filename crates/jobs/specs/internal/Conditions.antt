@@ -1,7 +1,7 @@
 -- Why a condition is not read.
 use Rattle.std.specs.Prelude.{◌≡◌, ◌⊎◌, ℕ, List, Option}
 use Rattle.conditions.specs.declared.error.CondError.{CondError}
-use Rattle.plans.specs.declared.cause.Cause.TheVariants.{Memory}
+use Rattle.boards.specs.declared.cause.Cause.TheVariants.{Memory}
 use Rattle.jobs.specs.FirstRefusal.{AreDue, IsConditionDue, IsTextDue}
 use Rattle.jobs.specs.Makings.{MayBeGiven}
 use Rattle.requests.specs.Requests.{Search}

@@ -1,7 +1,7 @@
 -- Why the questions of a `count` are not read.
 use Rattle.std.specs.Prelude.{◌≡◌, ◌⊎◌, ℕ, List, Option}
 use Rattle.conditions.specs.declared.error.CondError.{CondError}
-use Rattle.plans.specs.declared.cause.Cause.TheVariants.{Memory}
+use Rattle.boards.specs.declared.cause.Cause.TheVariants.{Memory}
 use Rattle.jobs.specs.FirstRefusal.{AreRefused, IsQuestionDue}
 use Rattle.requests.specs.Requests.{Questions}
 use Rattle.jobs.specs.declared.failure.Failure.{Failure}

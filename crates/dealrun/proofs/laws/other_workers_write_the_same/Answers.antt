@@ -1,5 +1,5 @@
 use Rattle.std.proofs.Common.{refl}
-use Rattle.plans.specs.Text.{boards_of, needed_by}
+use Rattle.boards.specs.Text.{boards_of, needed_by}
 use Rattle.dealrun.proofs.laws.other_workers_write_the_same.Goals as goal
 
 pub returns-clause-text_in : goal.returns-clause-text_in

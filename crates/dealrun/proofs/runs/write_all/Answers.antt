@@ -3,12 +3,12 @@ use Rattle.std.proofs.lemmas.List.{length-map}
 use Rattle.std.proofs.lemmas.Option.{MatchOption-at_none, MatchOption-at_some}
 use Rattle.lanes.specs.Views.{OutView}
 use Rattle.dealrun.specs.Interrupted.{InterruptedIn}
-use Rattle.plans.specs.declared.cause.Cause.TheVariants.{Output}
+use Rattle.boards.specs.declared.cause.Cause.TheVariants.{Output}
 use Rattle.dealrun.specs.internal.Ends.{Closes}
 use Rattle.dealrun.specs.internal.Handles.{IsIdle, owed_by}
 use Rattle.dealrun.proofs.Causes.{at_join, said_at}
 use Rattle.dealrun.proofs.Finals.{same_at}
-use Rattle.plans.proofs.Results.{at_err, at_ok}
+use Rattle.boards.proofs.Results.{at_err, at_ok}
 use Rattle.dealrun.proofs.runs.write_all.Goals as goal
 
 pub join_all-joined-requires-clause-unsettled : goal.join_all-joined-requires-clause-unsettled

@@ -1,6 +1,6 @@
 use Rattle.std.proofs.Common.{◌≡◌, ◌<◌, ◌∙◌, [], ap, arith, subst}
 use Rattle.sinks.specs.Appended.{AppendsAll, AppendsPart, append_known}
-use Rattle.plans.proofs.Results.{at_err, at_ok}
+use Rattle.boards.proofs.Results.{at_err, at_ok}
 use Rattle.deals_cli.proofs.Rejecting.{all_lanes, breaks_footer, closes, header_broken, limit_is}
 use Rattle.deals_cli.proofs.rejected.write_no_board.Goals as goal
 

@@ -1,6 +1,6 @@
 use Rattle.std.proofs.Common.{◌∙◌, ◌∷◌, [], decimal}
 use Rattle.std.proofs.lemmas.Result.{MatchResult-from_err}
-use Rattle.plans.proofs.Saying.{first_broken}
+use Rattle.boards.proofs.Saying.{first_broken}
 use Rattle.deals_cli.proofs.seed_job.put_seed.Goals as goal
 
 pub returns-in_err-put_all-clause-bytes : goal.returns-in_err-put_all-clause-bytes

@@ -2,7 +2,7 @@ use Rattle.std.proofs.Common.{ℕ, List, drop}
 use Rattle.std.proofs.lemmas.Result.{MatchResult-from_err, MatchResult-weaker}
 use Rattle.std.specs.List.{flat_map}
 use Rattle.cond_lang.specs.declared.language.TheConstants.{LANGUAGE}
-use Rattle.plans.proofs.Saying.{first_broken, second_broken, third_broken, three_parts}
+use Rattle.boards.proofs.Saying.{first_broken, second_broken, third_broken, three_parts}
 use Rattle.deals_cli.proofs.service.put_language.Goals as goal
 
 -- the parts of the page from the n-th on

@@ -1,7 +1,7 @@
 use Rattle.std.proofs.Common.{ap, arith}
-use Rattle.plans.proofs.BoardLists.{length-boards_of}
-use Rattle.plans.specs.Plans.{Planned}
-use Rattle.plans.specs.Text.{accepted}
+use Rattle.boards.proofs.BoardLists.{length-boards_of}
+use Rattle.boards.specs.Plans.{Planned}
+use Rattle.boards.specs.Text.{accepted}
 use Rattle.statistics.specs.Counting.{counting}
 use Rattle.statistics.specs.Subjects.{subject_of}
 use Rattle.deals_cli.proofs.Counted.{table_written}

@@ -3,7 +3,7 @@ use Rattle.cards.specs.Fixed.{IsFixed}
 use Rattle.cards.proofs.AroundDeals.{around_is_partition}
 use Rattle.cards.proofs.AroundLaws.{fixed_stay}
 use Rattle.std.proofs.Common.{subst, sym}
-use Rattle.plans.specs.Plans.{candidate_of}
+use Rattle.boards.specs.Plans.{candidate_of}
 use Rattle.screens.specs.Never.{Keeps}
 use Rattle.deals_cli.proofs.written.write_plan.Goals as goal
 

@@ -1,5 +1,5 @@
 use Rattle.std.proofs.Common.{◌≡◌, ◌≤◌, ◌+◌, ◌^◌, ℕ, List, [], Option}
-use Rattle.plans.specs.Plans.{Planned}
+use Rattle.boards.specs.Plans.{Planned}
 use Rattle.input.specs.Told.{Written}
 use Rattle.input.specs.internal.Telling.{ToldFrom}
 use Rattle.input.proofs.tricks.teller.pass_over.Given as goal

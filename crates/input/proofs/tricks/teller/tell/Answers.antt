@@ -1,8 +1,8 @@
 use Rattle.std.proofs.Common.{◌≡◌, ◌∙◌, ◌<◌, ◌+◌, ◌^◌, ◌∷◌, [], length, refl, sym, ap, subst, rules, arith}
 use Rattle.std.proofs.lemmas.List.Elements.{All-tail}
 use Rattle.notations.specs.Formats.{header_with_tricks, layout_in}
-use Rattle.plans.specs.Plans.{candidate_of}
-use Rattle.plans.specs.Text.{board_of}
+use Rattle.boards.specs.Plans.{candidate_of}
+use Rattle.boards.specs.Text.{board_of}
 use Rattle.input.specs.Told.{Tells, Written, text_tells, written_by}
 use Rattle.input.specs.declared.tricks.line.LineEnd.TheVariants.{Last}
 use Rattle.input.specs.internal.Telling.{ToldFrom, ToldLast}

@@ -1,6 +1,0 @@
-pub mod Ranges
-pub mod Results
-pub mod BoardLists
-pub mod Accepting
-pub mod Running
-pub mod Saying
