@@ -47,5 +47,5 @@ pub use report::Report;
 pub use setting::{Setting, Vul, dealer, vulnerable};
 pub use show::{POINTS, SHOW_WORDS, SHOWS, Seats, Show};
 pub use solved::SolvedNotation;
-pub use style::{STYLE_WORDS, STYLES, Style};
+pub use style::{STYLE_WORDS, STYLES, TableStyle};
 pub use tricks::Tricks;

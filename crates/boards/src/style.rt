@@ -2,7 +2,7 @@
 
 /// How a table is written.
 #[derive(Clone, Copy)]
-pub enum Style {
+pub enum TableStyle {
     /// Columns for people, with bars.
     Table,
     /// Comma-separated values, for programs.
@@ -14,11 +14,11 @@ pub enum Style {
 }
 
 /// The styles, each with its name.
-pub const STYLES: &[(&str, Style)] = &[
-    ("table", Style::Table),
-    ("csv", Style::Csv),
-    ("html", Style::Html),
-    ("json", Style::Json),
+pub const STYLES: &[(&str, TableStyle)] = &[
+    ("table", TableStyle::Table),
+    ("csv", TableStyle::Csv),
+    ("html", TableStyle::Html),
+    ("json", TableStyle::Json),
 ];
 
 /// Their names, as help lists them.

@@ -18,7 +18,7 @@ ghost use Rattle.boards.specs.declared.show.Seats.TheVariants.{Dealer};
 ghost use Rattle.boards.specs.Show.{all_shown};
 ghost use Rattle.requests.specs.declared.workers.Workers.TheVariants as workers;
 ghost use Rattle.requests.specs.declared.when.When.TheVariants.{Always, Auto, Never};
-ghost use Rattle.boards.specs.declared.style.Style.TheVariants.{Csv};
+ghost use Rattle.boards.specs.declared.style.TableStyle.TheVariants.{Csv};
 
 /// `deals stream --seed 0 --count 3` asks for the first three values of seed 0.
 pub fn example_of_stream()

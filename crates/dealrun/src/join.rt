@@ -8,8 +8,8 @@ ghost use Rattle.dealrun.specs.internal.Joins.{JoinsAs, JoinedAs};
 ghost use Rattle.dealrun.specs.internal.Causes.{cause_by};
 
 use crate::start::Started;
-use lanes::{LaneOut, WorkEnd};
 use boards::Cause;
+use lanes::{LaneOut, WorkEnd};
 use std::thread::Threads;
 
 /// The least worker that was stopped, and the least whose lane was not closed.

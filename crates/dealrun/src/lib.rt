@@ -20,8 +20,8 @@ mod start;
 mod values;
 mod writer;
 
-pub use pbn::{run, run_plain};
 pub use boards::{Cause, PlainFault, Plan, PlanError, run_plain_in};
+pub use pbn::{run, run_plain};
 pub use runs::{Counted, Report, RunFault, run_and_count, run_in};
 pub use sinks::{Fuse, MemSink, Piped, Sink, SinkFault, put_all};
 pub use values::stream;

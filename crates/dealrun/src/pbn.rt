@@ -9,10 +9,10 @@ ghost use Rattle.sinks.specs.Sinks.{CountsFault};
 ghost use Rattle.boards.specs.Text.{accepted};
 
 use crate::runs::{Report, RunFault, out_of_memory, run_in};
+use boards::{PlainFault, Plan, run_plain_in};
 use conditions::Cond;
 use lanes::Gate;
 use pbn_text::{Printer, Reference};
-use boards::{PlainFault, Plan, run_plain_in};
 use sinks::Sink;
 use std::alloc::Global;
 use std::sync::{Arc, Wait};

@@ -7,9 +7,9 @@ ghost use Rattle.lanes.specs.Jobs.{verdicts_around, verdicts_for};
 ghost use Rattle.lanes.specs.Work.{Ends};
 ghost use Rattle.dealrun.specs.internal.Handles.{IsIdle};
 
+use boards::Plan;
 use conditions::Cond;
 use lanes::{Gate, JobAround, LaneIn, LaneOut, Pace, WorkEnd, lane_in_blocks, work_around};
-use boards::Plan;
 use std::alloc::{AllocError, Global};
 use std::snapshot::Snapshot;
 use std::sync::atomic::AtomicBool;

@@ -12,7 +12,7 @@ use Rattle.boards.specs.Text.{accepted, board_of, boards_of, end_of, text_in}
 use Rattle.jobs.specs.Counting.{table_by}
 use Rattle.sinks.specs.Appended.{AppendsAll, append_known}
 use Rattle.statistics.specs.Counting.{Subject, count_text, counting, most_deals}
-use Rattle.boards.specs.declared.style.Style.{Style}
+use Rattle.boards.specs.declared.style.TableStyle.{TableStyle}
 
 no_texts : (boards : List Board) → flat_map {X = Board} {A = ℕ} (λ board. []) boards ≡ []
 no_texts [] = refl
@@ -34,7 +34,7 @@ deals_are plan xs plain = deals_from plan 0 xs plain
 no_more : (boards : List Board) (n : ℕ) → length boards ≤ n → take n boards ≡ boards
 no_more boards n few = take_all n boards few
 
-text_is : (style : Style) (subject : Subject) (plan : Planned) (form : Form) → plan.setting ≡ by_law
+text_is : (style : TableStyle) (subject : Subject) (plan : Planned) (form : Form) → plan.setting ≡ by_law
     → length (boards_of plan (accepted plan form)) ≤ most_deals
     → text_in (counting style subject) plan form ≡ table_by style subject plan form
 unfolding table_by
@@ -44,7 +44,7 @@ text_is style subject plan form plain few =
     ∙ ap (λ bs. count_text style subject (map (λ board. board.deal) bs) (end_of plan form)) (no_more boards most_deals few)
     ∙ ap (λ ds. count_text style subject ds (end_of plan form)) (deals_are plan (accepted plan form) plain)
 
-pub table_written : (style : Style) (subject : Subject) (plan : Planned) (form : Form) (boards : ℕ)
+pub table_written : (style : TableStyle) (subject : Subject) (plan : Planned) (form : Form) (boards : ℕ)
     (old new : Option (List ℕ)) → plan.setting ≡ by_law
     → length (boards_of plan (accepted plan form)) ≤ 2 ^ 40 → WritesTextIn (counting style subject) plan form boards old new
     → AppendsAll old new (table_by style subject plan form)

@@ -1,7 +1,7 @@
 -- The csv tables of shards, and of the whole.
 use Rattle.std.proofs.Common.{◌≡◌, ◌∙◌, ◌+◌, ◌++◌, ℕ, List, None, map, refl, ap, ap₂}
 use Rattle.std.proofs.lemmas.List.{map-append}
-use Rattle.boards.specs.declared.style.Style.TheVariants.{Csv}
+use Rattle.boards.specs.declared.style.TableStyle.TheVariants.{Csv}
 use Rattle.cards.specs.declared.seat.Seat.{Seat}
 use Rattle.conditions.specs.Form.{Form}
 use Rattle.jobs.specs.Counting.{table_by}

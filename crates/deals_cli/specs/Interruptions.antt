@@ -24,7 +24,7 @@ use Rattle.jobs.specs.declared.failure.Failure.{Failure}
 use Rattle.jobs.specs.declared.failure.Failure.TheVariants.{EndOfInput, Interrupted, Line, Record}
 use Rattle.jobs.specs.declared.failure.Failure.TheVariants.{Input}
 use Rattle.statistics.specs.Counting.{Subject, counting}
-use Rattle.boards.specs.declared.style.Style.{Style}
+use Rattle.boards.specs.declared.style.TableStyle.{TableStyle}
 
 -- the run of a `make` or a `find` was interrupted
 pub record InterruptsMake (s : Search) (l : Look) (cause : Cause) (old new : Option (List ℕ))
@@ -38,7 +38,7 @@ pub record InterruptsMake (s : Search) (l : Look) (cause : Cause) (old new : Opt
 
 -- the run of a `count` was interrupted: no board is written, and the table as far as it was
 -- written
-pub record InterruptsCount (s : Search) (questions : Questions) (style : Style) (cause : Cause)
+pub record InterruptsCount (s : Search) (questions : Questions) (style : TableStyle) (cause : Cause)
     (old new : Option (List ℕ)) : Type 0 where
   pub form : Form
   pub means : Means s form

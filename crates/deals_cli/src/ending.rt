@@ -4,8 +4,8 @@ ghost use Rattle.std.specs.Prelude.{◌≡◌, ◌-◌, ◌+◌, ◌^◌, ◌<�
 ghost use Rattle.jobs.specs.Failures.{status_in};
 ghost use Rattle.deals_cli.specs.Reported.{Says, SaysReport};
 
-use jobs::Failure;
 use boards::Report;
+use jobs::Failure;
 use sinks::Sink;
 
 /// Says the report, if there is one.

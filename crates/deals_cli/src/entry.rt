@@ -12,10 +12,10 @@ ghost use Rattle.deals_cli.specs.Wishes.{Appends, AppendsFrom};
 
 use crate::ending::conclude;
 use crate::task::{perform, prepare};
+use boards::Report;
 use command_line::read_words;
 use input::{NoBytes, Source};
 use jobs::Failure;
-use boards::Report;
 use sinks::Sink;
 use std::alloc::Global;
 use std::sync::Wait;

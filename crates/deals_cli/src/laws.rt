@@ -14,7 +14,7 @@ ghost use Rattle.input.specs.NumberTexts.{said};
 ghost use Rattle.input.specs.Picked.{picked_text};
 ghost use Rattle.boards.specs.Plans.{Planned};
 ghost use Rattle.boards.specs.Text.{accepted, text_in};
-ghost use Rattle.boards.specs.declared.style.Style.TheVariants.{Csv};
+ghost use Rattle.boards.specs.declared.style.TableStyle.TheVariants.{Csv};
 ghost use Rattle.deals_cli.specs.Formats.{text_as};
 ghost use Rattle.jobs.specs.Counting.{table_by};
 ghost use Rattle.statistics.specs.Counting.{Subject};

@@ -18,14 +18,14 @@ mod tricks_job;
 mod workers;
 mod written;
 
+pub use boards::Report;
 pub use command_line::{laws as examples, read_words};
 pub use ending::conclude;
 pub use entry::{program, program_with_input};
 pub use jobs::{BoardsJob, CountJob, Failure, Job, PickJob, ShowJob, planned};
-pub use boards::Report;
 pub use requests::{
     Format, LabelName, Look, Notices, QuestionName, Questions, Request, Search, Show,
-    StreamRequest, Style, When, Workers,
+    StreamRequest, TableStyle, When, Workers,
 };
 pub use service::serve;
 pub use task::{Task, perform, prepare};

@@ -4,11 +4,11 @@ ghost use Rattle.std.specs.Prelude.{◌≡◌, ◌-◌, ◌+◌, ◌^◌, ◌<�
 ghost use Rattle.jobs.specs.Failures.{CountsInput, faults_in, status_of};
 ghost use Rattle.deals_cli.specs.internal.Ends.{CountsPicked, EndsPicked, EndsPicking, FaultsPicked};
 
+use boards::Cause;
 use input::Source;
 use input::numbers::PickFault;
 use jobs::{Failure, PickJob};
 use notations::AnyPrinter;
-use boards::Cause;
 use sinks::Sink;
 use std::alloc::{AllocError, Global};
 

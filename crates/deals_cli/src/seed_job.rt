@@ -5,10 +5,10 @@ ghost use Rattle.jobs.specs.Failures.{CountsInput, faults_in, status_of};
 ghost use Rattle.deals_cli.specs.internal.Ends.{EndsDraw};
 ghost use Rattle.sinks.specs.Sinks.{AppendsOrBreaksOff, CountsFault};
 
+use boards::Cause;
 use input::{BytesFault, Source, read_four};
 use itoa::Buffer;
 use jobs::Failure;
-use boards::Cause;
 use sinks::{Sink, SinkFault, put_all};
 
 /// Writes the number that the next four bytes of the input are, the lowest first. What was written

@@ -11,13 +11,13 @@ ghost use Rattle.deals_cli.specs.internal.Kinds.{RefusesError};
 ghost use Rattle.jobs.specs.Failures.{CountsInput, faults_in, status_in, status_of};
 
 use crate::service::serve;
+use boards::Report;
 use clap::Error;
 use clap::error::ErrorKind;
 use command_line::shown_text;
 use dealrun::Cause;
 use input::Source;
 use jobs::{Failure, Job};
-use boards::Report;
 use requests::Request;
 use sinks::{Sink, put_all};
 use std::alloc::Global;

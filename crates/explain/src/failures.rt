@@ -2,10 +2,10 @@
 
 use crate::advice::advise;
 use crate::{rewritten, words};
-use input::records::{RecordFault, RefusedRecord};
-use jobs::Failure;
-use input::{LineFault, RefusedLine};
 use boards::Cause;
+use input::records::{RecordFault, RefusedRecord};
+use input::{LineFault, RefusedLine};
+use jobs::Failure;
 use requests::{QuestionName, Request};
 use std::alloc::Global;
 use std::io;

@@ -6,37 +6,37 @@ use Rattle.std.specs.List.{flat_map}
 use Rattle.std.proofs.lemmas.List.{append-nil, take-append-drop, take_more}
 use Rattle.std.proofs.lemmas.Grind.{flat_map-append}
 use Rattle.conditions.specs.declared.error.CondError.{CondError}
-use Rattle.statistics.specs.Counting.{Asked}
+use Rattle.statistics.specs.Counting.{TitledQuestion}
 use Rattle.jobs.specs.Counting.{AskEach, IsQuestion}
 use Rattle.jobs.specs.FirstRefusal.{IsFirstDue, IsQuestionDue}
 
 -- one text more
-pub ask_push : (D : Option (List ℕ)) (texts : List (List ℕ)) (asked : List Asked) (text : List ℕ) (a : Asked)
+pub ask_push : (D : Option (List ℕ)) (texts : List (List ℕ)) (asked : List TitledQuestion) (text : List ℕ) (a : TitledQuestion)
     → AskEach D texts asked → IsQuestion D text a → AskEach D (texts ++ text ∷ []) (asked ++ a ∷ [])
 ask_push D [] [] text a each q = (q, tt)
 ask_push D [] (b ∷ asked) text a each q = absurd each
 ask_push D (t ∷ texts) [] text a each q = absurd each
 ask_push D (t ∷ texts) (b ∷ asked) text a each q = (each.0, ask_push D texts asked text a each.1 q)
 
-pub only_push : (D : Option (List ℕ)) (texts : List (List ℕ)) (asked : List Asked) (text : List ℕ) (a : Asked)
-    → ((b : List Asked) → AskEach D texts b → b ≡ asked) → ((b : Asked) → IsQuestion D text b → b ≡ a)
-    → (b : List Asked) → AskEach D (texts ++ text ∷ []) b → b ≡ asked ++ a ∷ []
+pub only_push : (D : Option (List ℕ)) (texts : List (List ℕ)) (asked : List TitledQuestion) (text : List ℕ) (a : TitledQuestion)
+    → ((b : List TitledQuestion) → AskEach D texts b → b ≡ asked) → ((b : TitledQuestion) → IsQuestion D text b → b ≡ a)
+    → (b : List TitledQuestion) → AskEach D (texts ++ text ∷ []) b → b ≡ asked ++ a ∷ []
 only_push D texts asked text a only one b each =
     let parts = split D texts text b each in
-    parts.2 ∙ ap₂ (λ (x : List Asked) (y : Asked). x ++ y ∷ []) (only parts.0 parts.3) (one parts.1 parts.4)
+    parts.2 ∙ ap₂ (λ (x : List TitledQuestion) (y : TitledQuestion). x ++ y ∷ []) (only parts.0 parts.3) (one parts.1 parts.4)
   where
-    split : (D : Option (List ℕ)) (texts : List (List ℕ)) (text : List ℕ) (b : List Asked) → AskEach D (texts ++ text ∷ []) b
-        → (x : List Asked) × (y : Asked) × (b ≡ x ++ y ∷ []) × AskEach D texts x × IsQuestion D text y
+    split : (D : Option (List ℕ)) (texts : List (List ℕ)) (text : List ℕ) (b : List TitledQuestion) → AskEach D (texts ++ text ∷ []) b
+        → (x : List TitledQuestion) × (y : TitledQuestion) × (b ≡ x ++ y ∷ []) × AskEach D texts x × IsQuestion D text y
     split D [] text [] each = absurd each
     split D [] text (c ∷ []) each = ([], c, refl, tt, each.0)
     split D [] text (c ∷ d ∷ b) each = absurd each.1
     split D (t ∷ texts) text [] each = absurd each
     split D (t ∷ texts) text (c ∷ b) each =
         let rest = split D texts text b each.1 in
-        (c ∷ rest.0, rest.1, ap (λ (x : List Asked). c ∷ x) rest.2, (each.0, rest.3), rest.4)
+        (c ∷ rest.0, rest.1, ap (λ (x : List TitledQuestion). c ∷ x) rest.2, (each.0, rest.3), rest.4)
 
 -- a text among others
-pub due_after : (D : Option (List ℕ)) (texts : List (List ℕ)) (asked : List Asked) (text : List ℕ)
+pub due_after : (D : Option (List ℕ)) (texts : List (List ℕ)) (asked : List TitledQuestion) (text : List ℕ)
     (rest : List (List ℕ)) (error : CondError) → AskEach D texts asked → IsQuestionDue D text error
     → IsFirstDue D (texts ++ text ∷ rest) error
 due_after D [] asked text rest error each due = inl due
@@ -44,7 +44,7 @@ due_after D (t ∷ texts) [] text rest error each due = absurd each
 due_after D (t ∷ texts) (a ∷ asked) text rest error each due = inr ((a, each.0), due_after D texts asked text rest error each.1 due)
 
 pub question_in : (D : Option (List ℕ)) (texts : List (List ℕ)) (text : List ℕ) (rest : List (List ℕ))
-    (b : List Asked) → AskEach D (texts ++ text ∷ rest) b → (a : Asked) × IsQuestion D text a
+    (b : List TitledQuestion) → AskEach D (texts ++ text ∷ rest) b → (a : TitledQuestion) × IsQuestion D text a
 question_in D [] text rest [] each = absurd each
 question_in D [] text rest (a ∷ b) each = (a, each.0)
 question_in D (t ∷ texts) text rest [] each = absurd each

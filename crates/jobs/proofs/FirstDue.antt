@@ -36,7 +36,7 @@ use Rattle.jobs.specs.Counting.{IsAsked}
 use Rattle.jobs.specs.internal.Conditions.{IsConditionFailure, IsDefinitionsFailure, IsTextFailure}
 use Rattle.jobs.specs.internal.QuestionFailures.{AreFailure}
 use Rattle.statistics.specs.Counting.{Subject}
-use Rattle.boards.specs.declared.style.Style.{Style}
+use Rattle.boards.specs.declared.style.TableStyle.{TableStyle}
 
 -- ---- the numbers
 
@@ -314,7 +314,7 @@ show_refused l hints f refused due = record {
   nothing_done = (show_labels_due l f due).1;
 }
 
-pub count_refused : (s : Search) (q : Questions) (style : Style) (notices : Notices) (f : Failure)
+pub count_refused : (s : Search) (q : Questions) (style : TableStyle) (notices : Notices) (f : Failure)
     → (status_of f ≡ 2) × (IsPlanned s numbers_look → ⊥) → IsPlanDue s numbers_look f
     → IsRefused (count s q style notices) f
 count_refused s q style notices f refused due = record {
@@ -330,7 +330,7 @@ refused_later w f (inl is) plan memory = out_of_memory w (status_of f) is
 refused_later w f (inr is) plan memory =
     refused_meaning w (status_of f) is plan (λ meaning. let five : status_of f ≡ 5 = memory meaning in omega (arith, is, five))
 
-pub count_condition_refused : (s : Search) (q : Questions) (style : Style) (notices : Notices) (f : Failure)
+pub count_condition_refused : (s : Search) (q : Questions) (style : TableStyle) (notices : Notices) (f : Failure)
     → IsPlanned s numbers_look → (status_of f ≡ 5) ⊎ (status_of f ≡ 3)
     → ((form : Form) → Means s form → status_of f ≡ 5) → IsConditionFailure s f → IsRefused (count s q style notices) f
 count_condition_refused s q style notices f plan status memory due = record {
@@ -339,7 +339,7 @@ count_condition_refused s q style notices f plan status memory due = record {
   nothing_done = condition_refusal s f due;
 }
 
-pub questions_refused : (s : Search) (q : Questions) (style : Style) (notices : Notices) (f : Failure)
+pub questions_refused : (s : Search) (q : Questions) (style : TableStyle) (notices : Notices) (f : Failure)
     → IsPlanned s numbers_look → (form : Form) → Means s form
     → (status_of f ≡ 5) ⊎ (status_of f ≡ 3) → ((subject : Subject) → IsAsked s.let_text q subject → status_of f ≡ 5)
     → AreFailure s.let_text q f → IsRefused (count s q style notices) f

@@ -9,14 +9,14 @@ use Rattle.boards.specs.Plans.{Planned, candidate_of}
 use Rattle.boards.specs.Text.{accepted, end_of}
 use Rattle.requests.specs.Requests.{Questions, each_question, no_question, one_question}
 use Rattle.requests.specs.Requests.{two_questions}
-use Rattle.statistics.specs.Counting.{Asked, Subject, by_each, by_one, by_two, cells_of}
+use Rattle.statistics.specs.Counting.{TitledQuestion, Subject, by_each, by_one, by_two, cells_of}
 use Rattle.statistics.specs.Counting.{count_text, deals_alone, title_of}
 use Rattle.statistics.specs.Json.{string_of}
-use Rattle.boards.specs.declared.style.Style.{Style}
+use Rattle.boards.specs.declared.style.TableStyle.{TableStyle}
 
 -- the text asks this question after the definitions, and it has no more parts than the limit; the
 -- text is its title if it fits, and its string in JSON
-pub record IsQuestion (definitions : Option (List ℕ)) (text : List ℕ) (asked : Asked)
+pub record IsQuestion (definitions : Option (List ℕ)) (text : List ℕ) (asked : TitledQuestion)
     : Type 0 where
   pub short : length text ≤ 1024
   pub spells : SpellsQuestion (text_read definitions text) asked.question
@@ -25,7 +25,7 @@ pub record IsQuestion (definitions : Option (List ℕ)) (text : List ℕ) (asked
   pub string : asked.string ≡ string_of text
 
 -- each of the texts asks its question
-abbrev pub AskEach : (definitions : Option (List ℕ)) → List (List ℕ) → List Asked → Type 0
+abbrev pub AskEach : (definitions : Option (List ℕ)) → List (List ℕ) → List TitledQuestion → Type 0
 AskEach definitions [] [] = Unit {0}
 AskEach definitions (text ∷ texts) (a ∷ asked) =
     IsQuestion definitions text a × AskEach definitions texts asked
@@ -35,12 +35,12 @@ AskEach definitions texts asked = ⊥
 abbrev pub Asks : (definitions : Option (List ℕ)) → Questions → Subject → Type 0
 Asks definitions no_question subject = subject ≡ deals_alone
 Asks definitions (one_question text) subject =
-    (a : Asked) × IsQuestion definitions text a × (subject ≡ by_one a)
+    (a : TitledQuestion) × IsQuestion definitions text a × (subject ≡ by_one a)
 Asks definitions (two_questions rows columns) subject =
-    (a : Asked) × (b : Asked) × IsQuestion definitions rows a × IsQuestion definitions columns b
-    × (subject ≡ by_two a b)
+    (a : TitledQuestion) × (b : TitledQuestion) × IsQuestion definitions rows a
+    × IsQuestion definitions columns b × (subject ≡ by_two a b)
 Asks definitions (each_question texts) subject =
-    (asked : List Asked) × AskEach definitions texts asked × (subject ≡ by_each asked)
+    (asked : List TitledQuestion) × AskEach definitions texts asked × (subject ≡ by_each asked)
 
 -- and each table has at most 1,048,576 cells: one of a single question has as many as rows
 pub record IsAsked (definitions : Option (List ℕ)) (questions : Questions) (subject : Subject)
@@ -50,6 +50,6 @@ pub record IsAsked (definitions : Option (List ℕ)) (questions : Questions) (su
 
 -- the table of the accepted deals of a plan, and of how many candidates were tried. Neither the
 -- workers nor the capacity of the lanes are named
-unfoldable pub table_by : Style → Subject → Planned → Form → List ℕ
+unfoldable pub table_by : TableStyle → Subject → Planned → Form → List ℕ
 table_by style subject plan form =
     count_text style subject (map (candidate_of plan) (accepted plan form)) (end_of plan form)

@@ -29,7 +29,7 @@ use Rattle.jobs.specs.declared.failure.Failure.TheVariants.{EndOfInput}
 use Rattle.requests.specs.declared.names.LabelName.TheVariants.{Event, Site, Date}
 use Rattle.requests.specs.declared.names.QuestionName.{QuestionName}
 use Rattle.requests.specs.declared.names.QuestionName.TheVariants.{Of, By}
-use Rattle.statistics.specs.Counting.{Asked, Subject, cells_of}
+use Rattle.statistics.specs.Counting.{TitledQuestion, Subject, cells_of}
 
 -- what a plan has to meet, by the refusal that says that it doesn't
 abbrev pub Meets : Search → Look → Failure → Type 0
@@ -120,7 +120,8 @@ abbrev pub IsFirstDue : (definitions : Option (List ℕ)) → List (List ℕ) �
 IsFirstDue definitions [] error = ⊥
 IsFirstDue definitions (text ∷ texts) error =
     IsQuestionDue definitions text error
-    ⊎ (((asked : Asked) × IsQuestion definitions text asked) × IsFirstDue definitions texts error)
+    ⊎ (((asked : TitledQuestion) × IsQuestion definitions text asked)
+    × IsFirstDue definitions texts error)
 
 -- the text of `of` is refused so; or it is a question, and that of `by` is refused
 abbrev pub IsOfDue : (definitions : Option (List ℕ)) → Questions → CondError → Type 0
@@ -131,7 +132,8 @@ IsOfDue definitions (each_question texts) error = IsFirstDue definitions texts e
 
 abbrev pub IsByDue : (definitions : Option (List ℕ)) → Questions → CondError → Type 0
 IsByDue definitions (two_questions rows columns) error =
-    ((asked : Asked) × IsQuestion definitions rows asked) × IsQuestionDue definitions columns error
+    ((asked : TitledQuestion) × IsQuestion definitions rows asked)
+    × IsQuestionDue definitions columns error
 IsByDue definitions questions error = ⊥
 
 -- the question that makes a table too large is the last

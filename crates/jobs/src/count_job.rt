@@ -6,7 +6,7 @@ ghost use Rattle.requests.specs.Defaults.{workers_in};
 ghost use Rattle.statistics.specs.Counting.{cells_of};
 ghost use Rattle.statistics.specs.Subjects.{subject_of};
 
-use boards::{Plan, Style};
+use boards::{Plan, TableStyle};
 use cond_lang::Cond;
 use requests::Workers;
 use statistics::Subject;
@@ -19,7 +19,7 @@ pub struct CountJob {
     /// How many workers are asked for: with `Auto` the plan has one, until the job is done.
     pub workers: Workers,
     ghost workers_are: { plan.workers ≡ workers_in workers },
-    pub style: Style,
+    pub style: TableStyle,
     pub subject: Subject,
     ghost small: { cells_of (subject_of subject) ≤ 2 ^ 20 },
     // Nothing sets another dealer, and no deal is turned.

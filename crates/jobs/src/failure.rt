@@ -13,11 +13,11 @@ ghost use Rattle.jobs.specs.Lines.{definitions_line, text_line};
 ghost use Rattle.jobs.specs.declared.failure.Failure.TheVariants.{Interrupted};
 ghost use Rattle.sinks.specs.Messages.{text_of};
 
+use boards::{Cause, PlanError};
 use cards::Seat;
 use cond_lang::CondError;
 use input::records::{RecordFault, RefusedRecord};
 use input::{LineFault, RefusedLine};
-use boards::{Cause, PlanError};
 use requests::{LabelName, QuestionName};
 use sinks::{Message, Sink, SinkFault};
 use std::alloc::AllocError;

@@ -11,7 +11,7 @@ use crate::count_job::CountJob;
 use crate::failure::Failure;
 use crate::questions::read_subject;
 use crate::search::{planned, read_condition, read_heading};
-use boards::{Captions, Format, Plan, Show, Style};
+use boards::{Captions, Format, Plan, Show, TableStyle};
 use requests::lessons::page;
 use requests::{Look, Notices, Questions, Request, Search, StreamRequest};
 use std::alloc::Global;
@@ -142,7 +142,7 @@ fn count_job(
     alloc: Global,
     search: &Search<'_>,
     questions: &Questions<'_>,
-    style: Style,
+    style: TableStyle,
 ) -> Result<Job, Failure>
     ensures ready { (notices : ANotices) → IfOk result
         (IsReady (count (search_of search.now) (questions_of questions.now) style notices)) }

@@ -11,13 +11,13 @@ ghost use Rattle.jobs.specs.FirstRefusal.{IsDueAsked, last_of};
 ghost use Rattle.jobs.specs.Makings.{MayBeGiven, text_read};
 ghost use Rattle.requests.specs.Requests.{each_question, questions_of, texts_of};
 ghost use Rattle.jobs.specs.internal.QuestionFailures.{AreFailure, IsTextFailure};
-ghost use Rattle.statistics.specs.Counting.{Asked as AnAsked, Subject as ASubject};
+ghost use Rattle.statistics.specs.Counting.{TitledQuestion as ATitledQuestion, Subject as ASubject};
 ghost use Rattle.statistics.specs.Subjects.{subject_of};
 
 use crate::failure::Failure;
 use cond_lang::{CondError, Question, parse_question, parse_question_after};
 use requests::{MAX_QUESTIONS, QuestionName, Questions, Texts};
-use statistics::{Asked, Subject};
+use statistics::{Subject, TitledQuestion};
 use std::alloc::{AllocError, Global};
 
 /// The question that the text spells, after the definitions where some are given.
@@ -47,21 +47,21 @@ fn asked_of(
     definitions: Option<&str>,
     name: QuestionName,
     text: &str,
-) -> Result<Asked, Failure>
+) -> Result<TitledQuestion, Failure>
     requires { MayBeGiven (option_map (λ t. t.now) definitions) }
     ensures asked { IfOk result
         (IsQuestion (option_map (λ t. t.now) definitions.entry) text.now) }
-    ensures only { IfOk result (λ a. (b : AnAsked)
+    ensures only { IfOk result (λ a. (b : ATitledQuestion)
         → IsQuestion (option_map (λ t. t.now) definitions.entry) text.now b → b ≡ a) }
     ensures refused { IfErr result
         (IsTextFailure (option_map (λ t. t.now) definitions.entry) name text.now) }
     ensures status { IfErr result (λ e. (status_of e ≡ 5) ⊎ (status_of e ≡ 3)) }
-    ensures memory { IfErr result (λ e. (b : AnAsked)
+    ensures memory { IfErr result (λ e. (b : ATitledQuestion)
         → IsQuestion (option_map (λ t. t.now) definitions.entry) text.now b
         → status_of e ≡ 5) }
 {
     match ask_given(alloc, definitions, text) {
-        Ok(question) => Ok(Asked::new(alloc, question, text.as_bytes())?),
+        Ok(question) => Ok(TitledQuestion::new(alloc, question, text.as_bytes())?),
         Err(error) => Err(Failure::of_question(name, error)),
     }
 }
@@ -138,17 +138,17 @@ fn read_each(
     alloc: Global,
     definitions: Option<&str>,
     texts: &Texts<'_>,
-) -> Result<Vec<Asked>, Failure>
+) -> Result<Vec<TitledQuestion>, Failure>
     requires { MayBeGiven (option_map (λ t. t.now) definitions) }
     ensures asks { IfOk result (λ v. AskEach (option_map (λ t. t.now) definitions.entry)
         (texts_of texts.now) v.items) }
-    ensures only { IfOk result (λ v. (b : List AnAsked)
+    ensures only { IfOk result (λ v. (b : List ATitledQuestion)
         → AskEach (option_map (λ t. t.now) definitions.entry) (texts_of texts.now) b
         → b ≡ v.items) }
     ensures refused { IfErr result (AreFailure (option_map (λ t. t.now) definitions.entry)
         (each_question (texts_of texts.now))) }
     ensures status { IfErr result (λ e. (status_of e ≡ 5) ⊎ (status_of e ≡ 3)) }
-    ensures memory { IfErr result (λ e. (b : List AnAsked)
+    ensures memory { IfErr result (λ e. (b : List ATitledQuestion)
         → AskEach (option_map (λ t. t.now) definitions.entry) (texts_of texts.now) b
         → status_of e ≡ 5) }
 {
@@ -163,7 +163,7 @@ fn read_each(
 }
 
 /// Keeps one question more.
-fn keep(asked: &mut Vec<Asked>, question: Asked) -> Result<(), AllocError>
+fn keep(asked: &mut Vec<TitledQuestion>, question: TitledQuestion) -> Result<(), AllocError>
     ensures { IfOk result (λ _. asked.new.items ≡ asked.old.items ++ question ∷ []) }
 {
     asked.push(question)?;

@@ -4,9 +4,9 @@ ghost use Rattle.std.specs.Prelude.{◌≡◌, ◌<◌, IfOk};
 ghost use Rattle.lanes.specs.Jobs.{verdicts_around, verdicts_for};
 
 use crate::share::Share;
+use boards::Plan;
 use cards::Fixed;
 use conditions::Cond;
-use boards::Plan;
 use std::alloc::AllocError;
 
 /// What a worker is to do: judge its share of the seed's candidates by the condition.

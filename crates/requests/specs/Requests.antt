@@ -24,7 +24,7 @@ use Rattle.requests.specs.declared.workers.Workers.{Workers}
 use Rattle.requests.specs.declared.workers.Workers.TheVariants.{Number}
 use Rattle.requests.specs.declared.when.When.{When}
 use Rattle.requests.specs.declared.when.When.TheVariants.{Auto}
-use Rattle.boards.specs.declared.style.Style.{Style}
+use Rattle.boards.specs.declared.style.TableStyle.{TableStyle}
 
 -- which candidates are tried, and which of them are accepted: what options were given, or their
 -- defaults. A field is named as its option is, and `let` and `where` as let_text and where_text,
@@ -115,7 +115,7 @@ pub data Wish : Type 0 where
   -- look of its format alone
   make : Search → Look → (tricks : Bool) → Notices → Wish
   -- a table of what the accepted deals answer
-  count : Search → Questions → Style → Notices → Wish
+  count : Search → Questions → TableStyle → Notices → Wish
   -- the page of the language
   conditions : Wish
   -- what is told of a lesson, or of all

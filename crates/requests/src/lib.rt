@@ -24,7 +24,7 @@ mod search;
 mod when;
 mod workers;
 
-pub use boards::{Format, Show, Style};
+pub use boards::{Format, Show, TableStyle};
 pub use hand_fault::HandFault;
 pub use hands::PredealtHands;
 pub use look::Look;

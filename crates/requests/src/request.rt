@@ -9,7 +9,7 @@ use crate::names::QuestionName;
 use crate::questions::Questions;
 use crate::search::Search;
 use crate::when::When;
-use boards::{Format, Style};
+use boards::{Format, TableStyle};
 
 /// What a person is told while a run lasts and when it has ended. Nothing else depends on it.
 #[derive(Clone, Copy)]
@@ -50,7 +50,7 @@ pub enum Request<'a> {
     Count {
         search: Search<'a>,
         questions: Questions<'a>,
-        style: Style,
+        style: TableStyle,
         notices: Notices,
     },
     /// The boards of the candidates whose numbers the input gives.

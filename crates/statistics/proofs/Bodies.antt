@@ -4,11 +4,11 @@ use Rattle.std.proofs.lemmas.Bool.{eq-eqb, ne_eqb}
 use Rattle.std.proofs.lemmas.List.{append-nil}
 use Rattle.cards.specs.declared.seat.Seat.{Seat}
 use Rattle.statistics.specs.declared.one.table.Widths.{Widths}
-use Rattle.boards.specs.declared.style.Style.TheVariants as styles
+use Rattle.boards.specs.declared.style.TableStyle.TheVariants as styles
 use Rattle.statistics.specs.declared.line_style.LineStyle.{LineStyle}
 use Rattle.statistics.specs.declared.line_style.LineStyle.TheVariants.{Csv, Html, Table}
 use Rattle.statistics.specs.Answers.{answers_of}
-use Rattle.statistics.specs.Counting.{Asked, Subject, by_each, by_one, by_two, count_text, csv_text, deals_alone, page_table, pairs_of, table_text}
+use Rattle.statistics.specs.Counting.{TitledQuestion, Subject, by_each, by_one, by_two, count_text, csv_text, deals_alone, page_table, pairs_of, table_text}
 use Rattle.statistics.specs.Csv.{csv_total}
 use Rattle.statistics.specs.Sentence.{sentence}
 use Rattle.statistics.specs.internal.Counters.{alone_text, body_text, page_part, sentence_line}
@@ -43,7 +43,7 @@ two_body Table two deals tried kept h = two_table_is two (pairs_of two.of.asked.
 two_body Html two deals tried kept h = two_page_is two (pairs_of two.of.asked.question two.by.question deals) kept h
 two_body Csv two deals tried kept h = two_csv_is two (pairs_of two.of.asked.question two.by.question deals) kept h
 
-pub each_body : (style : LineStyle) (asked : List Asked) (deals : List (List Seat)) (tried : ℕ)
+pub each_body : (style : LineStyle) (asked : List TitledQuestion) (deals : List (List Seat)) (tried : ℕ)
     → each_text style asked deals tried ≡ body_text style (by_each asked) deals tried
 unfolding table_text csv_text page_table
 each_body Table asked deals tried = refl

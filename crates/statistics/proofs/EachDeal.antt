@@ -3,7 +3,7 @@ use Rattle.std.proofs.Common.{◌≡◌, ◌+◌, ◌<◌, ◌≤◌, ◌++◌, 
 use Rattle.std.proofs.Math.Seq.{take-append_seam}
 use Rattle.cards.specs.declared.seat.Seat.{Seat}
 use Rattle.statistics.specs.Answers.{answers_of}
-use Rattle.statistics.specs.Counting.{Asked}
+use Rattle.statistics.specs.Counting.{TitledQuestion}
 use Rattle.statistics.specs.internal.Kept.{CountsEach, CountsOne, IsCounted, KeptEach, KeptOne}
 
 -- each question has counted the deal
@@ -17,7 +17,7 @@ same_asked deal [] [] h = refl
 same_asked deal [] (n ∷ news) h = absurd (omega (arith, h.same))
 same_asked deal (o ∷ olds) [] h = absurd (omega (arith, h.same))
 same_asked deal (o ∷ olds) (n ∷ news) h =
-    ap₂ (λ (a : Asked) (rest : List Asked). a ∷ rest) (h.each 0 o (omega arith)).asked
+    ap₂ (λ (a : TitledQuestion) (rest : List TitledQuestion). a ∷ rest) (h.each 0 o (omega arith)).asked
     (same_asked deal olds news (record { same = omega (arith, h.same); each = λ k d lt. h.each (suc k) d (omega (arith, lt)) }))
 
 pub all_alike : (deal : List Seat) (olds news : List KeptOne) (n : ℕ) → HaveCounted deal olds news
@@ -32,7 +32,7 @@ pub all_counted : (deal : List Seat) (olds news : List KeptOne) (deals : List (L
 all_counted deal olds news deals h counts k d lt =
     let within : k < length olds = omega (arith, h.same, lt) in
     let one = h.each k d within in
-    subst (λ (a : Asked). CountsOne (get_or news k d) (answers_of a.question (deals ++ deal ∷ []))) (sym one.asked)
+    subst (λ (a : TitledQuestion). CountsOne (get_or news k d) (answers_of a.question (deals ++ deal ∷ []))) (sym one.asked)
     (one.counted deals (counts k d within))
 
 pub written : (xs ys : List KeptOne) (n : ℕ) → length xs ≡ n → take n (xs ++ ys) ≡ xs

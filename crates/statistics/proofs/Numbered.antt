@@ -4,7 +4,7 @@ use Rattle.std.specs.List.{flat_map}
 use Rattle.conditions.specs.Questions.{is_condition}
 use Rattle.statistics.specs.declared.sums.Sums.{Sums}
 use Rattle.statistics.specs.Answers.{count_of}
-use Rattle.statistics.specs.Counting.{Asked}
+use Rattle.statistics.specs.Counting.{TitledQuestion}
 use Rattle.statistics.specs.Csv.{csv_numbered, csv_numbered_row}
 use Rattle.statistics.specs.internal.Kept.{CountsOne, IsKeptOne, IsListOf, KeptOne, sums_of}
 use Rattle.statistics.specs.internal.Parts.{numbered_kept}
@@ -12,7 +12,7 @@ use Rattle.statistics.specs.internal.Texts.{numbers_in, rows_of_one, rows_shown}
 use Rattle.statistics.proofs.Alike.{flat_map_alike, same_rows}
 use Rattle.statistics.proofs.OneTable.{one_of, within_one}
 
-lines_are : (question : ℕ) (asked : Asked) (counts answers : List ℕ)
+lines_are : (question : ℕ) (asked : TitledQuestion) (counts answers : List ℕ)
     → IsKeptOne (one_of asked counts (sums_of answers)) → IsListOf (λ n. count_of n answers) counts
     → flat_map (numbered_kept question (one_of asked counts (sums_of answers)))
     (numbers_in (rows_of_one (one_of asked counts (sums_of answers)))) ≡ csv_numbered question

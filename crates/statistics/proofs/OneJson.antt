@@ -5,7 +5,7 @@ use Rattle.std.specs.List.{flat_map}
 use Rattle.conditions.specs.Questions.{is_condition}
 use Rattle.statistics.specs.declared.sums.Sums.{Sums}
 use Rattle.statistics.specs.Answers.{count_of, rows, squares}
-use Rattle.statistics.specs.Counting.{Asked}
+use Rattle.statistics.specs.Counting.{TitledQuestion}
 use Rattle.statistics.specs.Json.{json_one, json_sums, json_value}
 use Rattle.statistics.specs.internal.Items.{one_json, one_start, sums_kept, value_kept, values_kept}
 use Rattle.statistics.specs.internal.Kept.{CountsOne, IsKeptOne, IsListOf, KeptOne, sums_of}
@@ -13,10 +13,10 @@ use Rattle.statistics.specs.internal.Texts.{numbers_in, rows_shown}
 use Rattle.statistics.proofs.Alike.{flat_map_alike, same_rows}
 use Rattle.statistics.proofs.OneTable.{one_of, within_one}
 
-abbrev of_answers : Asked → List ℕ → List ℕ
+abbrev of_answers : TitledQuestion → List ℕ → List ℕ
 of_answers asked answers = flat_map (λ (n : ℕ). json_value n (count_of n answers)) (rows (is_condition asked.question) answers)
 
-values_are : (asked : Asked) (counts answers : List ℕ) → IsKeptOne (one_of asked counts (sums_of answers)) → IsListOf (λ n. count_of n answers) counts
+values_are : (asked : TitledQuestion) (counts answers : List ℕ) → IsKeptOne (one_of asked counts (sums_of answers)) → IsListOf (λ n. count_of n answers) counts
     → values_kept (one_of asked counts (sums_of answers)) ≡ of_answers asked answers
 values_are asked counts answers kept h =
     let within = within_one asked counts (sums_of answers) kept in
@@ -28,7 +28,7 @@ values_are asked counts answers kept h =
 parts : (k s v o x e m z : List ℕ) → k ++ s ++ (v ++ o) ++ x ++ (e ++ m ++ z) ≡ k ++ s ++ v ++ (o ++ x ++ e) ++ m ++ z
 parts k s v o x e m z = simp append_assoc
 
-object_is : (asked : Asked) (answers : List ℕ) (xs : List ℕ)
+object_is : (asked : TitledQuestion) (answers : List ℕ) (xs : List ℕ)
     → one_start (one_of asked [] (sums_of answers)) ++ drop 1 xs ++ sums_kept (one_of asked [] (sums_of answers))
     ≡ codes "{\"of\":" ++ asked.string ++ codes ",\"values\":" ++ (codes "[" ++ drop 1 xs ++ codes "]")
     ++ json_sums (is_condition asked.question) answers ++ codes "}"
@@ -37,7 +37,7 @@ object_is asked answers xs =
     parts (codes "{\"of\":") asked.string (codes ",\"values\":") (codes "[") (drop 1 xs) (codes "]")
     (json_sums (is_condition asked.question) answers) (codes "}")
 
-json_is : (asked : Asked) (counts answers : List ℕ) → IsKeptOne (one_of asked counts (sums_of answers)) → IsListOf (λ n. count_of n answers) counts
+json_is : (asked : TitledQuestion) (counts answers : List ℕ) → IsKeptOne (one_of asked counts (sums_of answers)) → IsListOf (λ n. count_of n answers) counts
     → one_json (one_of asked counts (sums_of answers)) ≡ json_one (is_condition asked.question) asked.string answers
 unfolding one_json json_one sums_kept
 json_is asked counts answers kept h =

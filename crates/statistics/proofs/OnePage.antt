@@ -6,14 +6,14 @@ use Rattle.statistics.specs.declared.one.table.Widths.{Widths}
 use Rattle.statistics.specs.declared.line_style.LineStyle.TheVariants.{Html}
 use Rattle.statistics.specs.declared.sums.Sums.{Sums}
 use Rattle.statistics.specs.Answers.{count_of, most_in, rows}
-use Rattle.statistics.specs.Counting.{Asked}
+use Rattle.statistics.specs.Counting.{TitledQuestion}
 use Rattle.statistics.specs.Page.{page_header, page_mean, page_one, page_row}
 use Rattle.statistics.specs.internal.Kept.{CountsOne, IsKeptOne, IsListOf, KeptOne, sums_of}
 use Rattle.statistics.specs.internal.Texts.{AreWidths, one_head, one_row, one_tail, one_text, rows_shown}
 use Rattle.statistics.proofs.Alike.{flat_map_alike, same_most, same_rows}
 use Rattle.statistics.proofs.OneTable.{one_of, within_one}
 
-page_is : (asked : Asked) (counts answers : List ℕ) (widths : Widths)
+page_is : (asked : TitledQuestion) (counts answers : List ℕ) (widths : Widths)
     → IsKeptOne (one_of asked counts (sums_of answers)) → IsListOf (λ n. count_of n answers) counts
     → AreWidths (one_of asked counts (sums_of answers)) widths
     → one_text Html widths (one_of asked counts (sums_of answers)) ≡ page_one (is_condition asked.question) answers

@@ -7,14 +7,14 @@ use Rattle.statistics.specs.declared.one.table.Widths.{Widths}
 use Rattle.statistics.specs.declared.line_style.LineStyle.TheVariants.{Csv, Table}
 use Rattle.statistics.specs.declared.sums.Sums.{Sums}
 use Rattle.statistics.specs.Answers.{count_of, most_in, rows}
-use Rattle.statistics.specs.Counting.{Asked}
+use Rattle.statistics.specs.Counting.{TitledQuestion}
 use Rattle.statistics.specs.Csv.{csv_one, csv_row}
 use Rattle.statistics.specs.OneQuestion.{first_width, line, mean_line, one_table, row, second_width, table_rows}
 use Rattle.statistics.specs.internal.Kept.{CountsOne, IsKeptOne, IsListOf, KeptOne, sums_of}
 use Rattle.statistics.specs.internal.Texts.{AreWidths, most_of, one_head, one_row, one_tail, one_text, rows_shown}
 use Rattle.statistics.proofs.Alike.{end_within, flat_map_alike, same_most, same_rows}
 
-abbrev pub one_of : Asked → List ℕ → Sums → KeptOne
+abbrev pub one_of : TitledQuestion → List ℕ → Sums → KeptOne
 one_of asked counts sums = record { asked = asked; sums = sums; counts = counts }
 
 row_same : (b : Bool) (f f' s s' m m' all n c c' : ℕ) → f ≡ f' → s ≡ s' → m ≡ m' → c ≡ c' → row b f s m all n c ≡ row b f' s' m' all n c'
@@ -22,13 +22,13 @@ row_same b f f' s s' m m' all n c c' ef es em ec =
     ap (λ (x : ℕ). row b x s m all n c) ef ∙ ap (λ (x : ℕ). row b f' x m all n c) es
     ∙ ap (λ (x : ℕ). row b f' s' x all n c) em ∙ ap (λ (x : ℕ). row b f' s' m' all n x) ec
 
-pub within_one : (asked : Asked) (counts : List ℕ) (sums : Sums) → IsKeptOne (one_of asked counts sums)
+pub within_one : (asked : TitledQuestion) (counts : List ℕ) (sums : Sums) → IsKeptOne (one_of asked counts sums)
     → (rows_shown (is_condition asked.question) sums).end ≤ length counts
 within_one asked counts sums kept =
     let most : sums.greatest < rows_of asked.question = omega (arith, kept.rows, kept.within) in
     omega (arith, end_within asked.question sums most, kept.rows)
 
-table_is : (asked : Asked) (counts answers : List ℕ) (widths : Widths)
+table_is : (asked : TitledQuestion) (counts answers : List ℕ) (widths : Widths)
     → IsKeptOne (one_of asked counts (sums_of answers)) → IsListOf (λ n. count_of n answers) counts
     → AreWidths (one_of asked counts (sums_of answers)) widths
     → one_text Table widths (one_of asked counts (sums_of answers)) ≡ one_table (is_condition asked.question)
@@ -55,7 +55,7 @@ table_is asked counts answers widths kept h w =
     (most_in (rows (is_condition asked.question) answers) answers) (length answers) n (count_of n answers)))
     (same_rows (is_condition asked.question) answers))
 
-csv_is : (asked : Asked) (counts answers : List ℕ) (widths : Widths)
+csv_is : (asked : TitledQuestion) (counts answers : List ℕ) (widths : Widths)
     → IsKeptOne (one_of asked counts (sums_of answers)) → IsListOf (λ n. count_of n answers) counts
     → one_text Csv widths (one_of asked counts (sums_of answers)) ≡ csv_one (is_condition asked.question) answers
 unfolding one_text one_head one_row one_tail csv_one

@@ -7,12 +7,12 @@ use Rattle.std.proofs.lemmas.Bool.{ne_eqb}
 use Rattle.std.proofs.lemmas.Grind.{flat_map-append}
 use Rattle.std.proofs.lemmas.List.{length-append, map-append}
 use Rattle.std.proofs.lemmas.List.Sums.{sum_by-append, sum_by-cons}
-use Rattle.boards.specs.declared.style.Style.TheVariants.{Csv}
+use Rattle.boards.specs.declared.style.TableStyle.TheVariants.{Csv}
 use Rattle.cards.specs.declared.seat.Seat.{Seat}
 use Rattle.conditions.specs.Questions.{answer, is_condition}
 use Rattle.statistics.specs.Answers.{answers_of, count_of, greatest_of, least_of, rows}
 use Rattle.statistics.specs.Columns.{plain_label}
-use Rattle.statistics.specs.Counting.{Asked, Subject, by_each, by_one, by_two, csv_text, deals_alone, kinds_of, pairs_of, part_of, parts_text}
+use Rattle.statistics.specs.Counting.{TitledQuestion, Subject, by_each, by_one, by_two, csv_text, deals_alone, kinds_of, pairs_of, part_of, parts_text}
 use Rattle.statistics.specs.Csv.{csv_cell, csv_counts, csv_numbered, csv_numbered_row, csv_one, csv_row, csv_total, csv_two}
 use Rattle.statistics.specs.Shards.{AddUp, Line, LinesAddUp, PartsAddUp, counted}
 use Rattle.statistics.specs.TwoQuestions.{Kinds, Pairs, cell, columns, of_columns, of_rows}
@@ -254,13 +254,13 @@ in_both k c xs ys =
     ∙ sym (over_map (λ l. counted l.label (l.one + l.two)) (numbered_line k c xs ys) (wide c (beyond xs ys)))
 
 -- the lines of all questions, numbered from k on
-lines_of : ℕ → List Asked → (deals more : List (List Seat)) → List Line
+lines_of : ℕ → List TitledQuestion → (deals more : List (List Seat)) → List Line
 lines_of k [] deals more = []
 lines_of k (a ∷ asked) deals more =
     question_lines k (is_condition a.question) (answers_of a.question deals) (answers_of a.question more) ++ lines_of (k + 1) asked deals more
 
-parts_are : (k : ℕ) (asked : List Asked) (deals more told : List (List Seat)) (f : Line → List ℕ)
-    → ((j : ℕ) (a : Asked) → csv_numbered j (is_condition a.question) (answers_of a.question told) ≡ flat_map f
+parts_are : (k : ℕ) (asked : List TitledQuestion) (deals more told : List (List Seat)) (f : Line → List ℕ)
+    → ((j : ℕ) (a : TitledQuestion) → csv_numbered j (is_condition a.question) (answers_of a.question told) ≡ flat_map f
     (question_lines j (is_condition a.question) (answers_of a.question deals) (answers_of a.question more)))
     → flat_map (part_of Csv told) (enumerate_from k asked) ≡ flat_map f (lines_of k asked deals more)
 unfolding lines_of
@@ -270,7 +270,7 @@ parts_are k (a ∷ asked) deals more told f same =
     ∙ sym (flat_map-append f (question_lines k (is_condition a.question) (answers_of a.question deals)
     (answers_of a.question more)) (lines_of (k + 1) asked deals more))
 
-each_adds : (asked : List Asked) (deals more : List (List Seat)) (m n : ℕ)
+each_adds : (asked : List TitledQuestion) (deals more : List (List Seat)) (m n : ℕ)
     → PartsAddUp (csv_counts (length deals) m ++ parts_text Csv asked deals) (csv_counts (length more) n ++ parts_text Csv asked more)
     (csv_counts (length (deals ++ more)) (m + n) ++ parts_text Csv asked (deals ++ more))
 each_adds asked deals more m n = record {

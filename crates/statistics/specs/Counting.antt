@@ -5,8 +5,8 @@ use Rattle.std.specs.List.{enumerate_from, flat_map, list_all}
 use Rattle.boards.specs.Layouts.{Layout}
 use Rattle.cards.specs.declared.seat.Seat.{Seat}
 use Rattle.conditions.specs.Questions.{Question, answer, is_condition, rows_of}
-use Rattle.boards.specs.declared.style.Style.{Style}
-use Rattle.boards.specs.declared.style.Style.TheVariants.{Csv, Html, Json, Table}
+use Rattle.boards.specs.declared.style.TableStyle.{TableStyle}
+use Rattle.boards.specs.declared.style.TableStyle.TheVariants.{Csv, Html, Json, Table}
 use Rattle.statistics.specs.Answers.{answers_of}
 use Rattle.statistics.specs.Csv.{csv_counts, csv_numbered, csv_one, csv_total, csv_two}
 use Rattle.statistics.specs.Json.{json_object, json_one, json_two}
@@ -16,7 +16,7 @@ use Rattle.statistics.specs.Sentence.{sentence}
 use Rattle.statistics.specs.TwoQuestions.{Kinds, Pairs, two_table}
 
 -- a question, the title that it has in a table, and its text as a string of JSON
-pub record Asked : Type 0 where
+pub record TitledQuestion : Type 0 where
   pub question : Question
   pub title : List ℕ
   pub string : List ℕ
@@ -33,12 +33,12 @@ title_of text = if is_shown text then text else codes "value"
 -- columns, or several that have a table each
 pub data Subject : Type 0 where
   deals_alone : Subject
-  by_one : Asked → Subject
-  by_two : Asked → Asked → Subject
-  by_each : List Asked → Subject
+  by_one : TitledQuestion → Subject
+  by_two : TitledQuestion → TitledQuestion → Subject
+  by_each : List TitledQuestion → Subject
 
 -- the most rows that a table of one of the questions can have
-abbrev pub most_rows : List Asked → ℕ
+abbrev pub most_rows : List TitledQuestion → ℕ
 most_rows asked = fold max 0 (map (λ a. rows_of a.question) asked)
 
 -- how many cells a table can have. One of a single question has a row for each answer; of several
@@ -53,12 +53,12 @@ cells_of (by_each asked) = most_rows asked
 abbrev pub pairs_of : Question → Question → List (List Seat) → Pairs
 pairs_of of by deals = map (λ deal. (answer of deal, answer by deal)) deals
 
-abbrev pub kinds_of : Asked → Asked → Kinds
+abbrev pub kinds_of : TitledQuestion → TitledQuestion → Kinds
 kinds_of of by =
     record { of_condition = is_condition of.question; by_condition = is_condition by.question }
 
 -- what is told of one of several questions, by its number and the answers
-abbrev pub part_text : Style → ℕ → Asked → List ℕ → List ℕ
+abbrev pub part_text : TableStyle → ℕ → TitledQuestion → List ℕ → List ℕ
 part_text Table number asked answers =
     one_table (is_condition asked.question) asked.title answers
 part_text Csv number asked answers =
@@ -70,11 +70,11 @@ part_text Json number asked answers =
     ++ json_one (is_condition asked.question) asked.string answers
 
 -- and of all of them, numbered from 1
-abbrev pub part_of : Style → List (List Seat) → ℕ × Asked → List ℕ
+abbrev pub part_of : TableStyle → List (List Seat) → ℕ × TitledQuestion → List ℕ
 part_of style deals numbered =
     part_text style numbered.0 numbered.1 (answers_of numbered.1.question deals)
 
-abbrev pub parts_text : Style → List Asked → List (List Seat) → List ℕ
+abbrev pub parts_text : TableStyle → List TitledQuestion → List (List Seat) → List ℕ
 parts_text style asked deals = flat_map (part_of style deals) (enumerate_from 1 asked)
 
 -- the table below the sentence: none if no deal is there
@@ -130,7 +130,7 @@ json_text subject deals candidates =
     json_object (length deals) candidates (json_questions subject deals)
 
 -- all that is told of these deals, and of how many candidates were tried
-unfoldable pub count_text : Style → Subject → List (List Seat) → ℕ → List ℕ
+unfoldable pub count_text : TableStyle → Subject → List (List Seat) → ℕ → List ℕ
 count_text Table subject deals candidates =
     sentence (length deals) candidates ++ codes "\n"
     ++ (if length deals == 0 then [] else table_text subject deals)
@@ -147,7 +147,7 @@ abbrev pub most_deals : ℕ
 most_deals = 2 ^ 40
 
 -- as a notation: the boards have no text of their own, and the footer tells of their deals
-abbrev pub counting : Style → Subject → Layout
+abbrev pub counting : TableStyle → Subject → Layout
 counting style subject = record {
   header = [];
   board = λ board. [];

@@ -7,7 +7,7 @@ ghost use Rattle.statistics.specs.Subjects.{subject_of};
 use crate::kept::Kept;
 use crate::line_style::LineStyle;
 use crate::subject::Subject;
-use boards::{Board, Notation, Style};
+use boards::{Board, Notation, TableStyle};
 use cards::MAX_CANDIDATES;
 use sinks::{Sink, SinkFault};
 use std::alloc::{AllocError, Global};
@@ -20,7 +20,7 @@ const MAX_DEALS: u64 = MAX_CANDIDATES;
 ///
 /// It takes the memory for the numbers of a table once, when it is created, and none to count.
 pub struct Counter {
-    style: Style,
+    style: TableStyle,
     kept: Kept,
 }
 
@@ -36,7 +36,7 @@ impl Counter {
     ///
     /// # Errors
     /// `AllocError` if the allocation of a number for each row or cell failed.
-    pub fn new(alloc: Global, style: Style, subject: Subject) -> Result<Counter, AllocError>
+    pub fn new(alloc: Global, style: TableStyle, subject: Subject) -> Result<Counter, AllocError>
         requires { cells_of (subject_of subject) ≤ 2 ^ 20 }
         ensures layout { IfOk result (λ c.
             ⟦<Counter as Notation>⟧.layout c ≡ counting style (subject_of subject)) }
@@ -77,10 +77,10 @@ impl Notation for Counter {
 
     fn put_footer<S: Sink>(&self, tried: u64, sink: &mut S) -> Result<(), SinkFault> {
         match self.style {
-            Style::Table => self.kept.put_table(tried, sink),
-            Style::Csv => self.kept.put_body(LineStyle::Csv, tried, sink),
-            Style::Html => self.kept.put_page(tried, sink),
-            Style::Json => self.kept.put_json(tried, sink),
+            TableStyle::Table => self.kept.put_table(tried, sink),
+            TableStyle::Csv => self.kept.put_body(LineStyle::Csv, tried, sink),
+            TableStyle::Html => self.kept.put_page(tried, sink),
+            TableStyle::Json => self.kept.put_json(tried, sink),
         }
     }
 }

@@ -12,8 +12,8 @@ use crate::csv_lines::counts_text;
 use crate::line_style::LineStyle;
 use crate::one::One;
 use crate::pieces::put_piece;
-use crate::subject::Asked;
-use boards::Style;
+use crate::subject::TitledQuestion;
+use boards::TableStyle;
 use cards::Deal;
 use sinks::{Sink, SinkFault};
 use std::alloc::{AllocError, Global};
@@ -50,7 +50,7 @@ impl Each {
     ///
     /// # Errors
     /// `AllocError` if the allocation of a number for each row of a table failed.
-    pub(crate) fn new(alloc: Global, asked: Vec<Asked>) -> Result<Each, AllocError>
+    pub(crate) fn new(alloc: Global, asked: Vec<TitledQuestion>) -> Result<Each, AllocError>
         requires { most_rows asked.items ≤ 2 ^ 20 }
         ensures asked { IfOk result (λ each. asked_each each ≡ asked.items) }
         ensures counted { IfOk result (λ each. CountsEach each []) }
@@ -102,12 +102,12 @@ impl Each {
         ensures faults { CountsFault (S.faults sink.old) (S.faults sink.new) result }
     {
         match style {
-            LineStyle::Table => self.put_parts(Style::Table, sink),
+            LineStyle::Table => self.put_parts(TableStyle::Table, sink),
             LineStyle::Csv => {
                 put_piece(sink, &counts_text(self.deals(), tried))?;
-                self.put_parts(Style::Csv, sink)
+                self.put_parts(TableStyle::Csv, sink)
             }
-            LineStyle::Html => self.put_parts(Style::Html, sink),
+            LineStyle::Html => self.put_parts(TableStyle::Html, sink),
         }
     }
 
@@ -115,7 +115,11 @@ impl Each {
     ///
     /// # Errors
     /// `SinkFault` if the sink failed: a proper prefix of the text was written.
-    pub(crate) fn put_parts<S: Sink>(&self, style: Style, sink: &mut S) -> Result<(), SinkFault>
+    pub(crate) fn put_parts<S: Sink>(
+        &self,
+        style: TableStyle,
+        sink: &mut S,
+    ) -> Result<(), SinkFault>
         requires deals { TellsDeals style self.now.deals }
         requires faults { S.faults sink.old < 2 ^ 64 - 1 }
         ensures bytes { (deals : List (List Seat)) → CountsEach self.now deals

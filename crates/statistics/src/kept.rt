@@ -1,7 +1,7 @@
 //! What is kept of the deals that were counted.
 
 ghost use Rattle.std.specs.Prelude.{◌≡◌, ◌≤◌, ◌<◌, ◌-◌, ◌++◌, ◌∷◌, ◌^◌, [], IfOk, List, length};
-ghost use Rattle.boards.specs.declared.style.Style.TheVariants.{Html, Table};
+ghost use Rattle.boards.specs.declared.style.TableStyle.TheVariants.{Html, Table};
 ghost use Rattle.cards.specs.declared.seat.Seat.{Seat};
 ghost use Rattle.sinks.specs.Sinks.{AppendsOrBreaksOff, CountsFault};
 ghost use Rattle.statistics.specs.Counting.{cells_of, count_text, most_deals, page_title};

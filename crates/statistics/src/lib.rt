@@ -25,6 +25,6 @@ mod sums;
 mod title;
 mod two;
 
-pub use boards::{STYLE_WORDS, STYLES, Style};
+pub use boards::{STYLE_WORDS, STYLES, TableStyle};
 pub use counter::Counter;
-pub use subject::{Asked, MAX_CELLS, Subject};
+pub use subject::{MAX_CELLS, Subject, TitledQuestion};

@@ -12,7 +12,7 @@ mod json;
 mod part;
 mod table;
 
-use crate::subject::Asked;
+use crate::subject::TitledQuestion;
 use crate::sums::Sums;
 use cards::Deal;
 use std::alloc::{AllocError, Global};
@@ -20,7 +20,7 @@ use std::marker::Model;
 
 /// A question, the sums of the answers so far, and how often each number is among them.
 pub(crate) struct One {
-    asked: Asked,
+    asked: TitledQuestion,
     sums: Sums,
     counts: Vec<u64>,
 }
@@ -55,7 +55,7 @@ impl One {
     ///
     /// # Errors
     /// `AllocError` if the allocation of a number for each row failed.
-    pub(crate) fn new(alloc: Global, asked: Asked) -> Result<One, AllocError>
+    pub(crate) fn new(alloc: Global, asked: TitledQuestion) -> Result<One, AllocError>
         requires { rows_of asked.question ≤ 2 ^ 20 }
         ensures asked { IfOk result (λ one. one.asked ≡ asked) }
         ensures counted { IfOk result (λ one. CountsOne one []) }

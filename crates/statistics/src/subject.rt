@@ -12,17 +12,17 @@ use std::alloc::{AllocError, Global};
 use std::marker::Model;
 
 /// A question, the title that it has in a table, and its text as a string of JSON.
-pub struct Asked {
+pub struct TitledQuestion {
     pub(crate) question: Question,
     pub(crate) title: Title,
     pub(crate) string: Vec<u8>,
 }
 
-impl Model for Asked {
-    ghost use Rattle.statistics.specs.Counting.{Asked as AnAsked};
+impl Model for TitledQuestion {
+    ghost use Rattle.statistics.specs.Counting.{TitledQuestion as ATitledQuestion};
     ghost use Rattle.statistics.specs.internal.Codes.{asked_code};
 
-    ghost Value = { AnAsked };
+    ghost Value = { ATitledQuestion };
 
     ghost coded = { asked_code };
 
@@ -34,9 +34,9 @@ impl Model for Asked {
 }
 
 // By hand, so that to drop one is a call (docs/DECISIONS.md).
-impl Drop for Asked {
+impl Drop for TitledQuestion {
     fn drop(self) {
-        let Asked {
+        let TitledQuestion {
             question: _,
             title: _,
             string: _,
@@ -44,18 +44,18 @@ impl Drop for Asked {
     }
 }
 
-impl Asked {
+impl TitledQuestion {
     /// The question, with its text as its title. A text that has more than 72 bytes, or one that
     /// isn't printable ASCII, gives the title `value`.
     ///
     /// # Errors
     /// `AllocError` if the allocation of the text as a string failed.
-    pub fn new(alloc: Global, question: Question, text: &[u8]) -> Result<Asked, AllocError>
+    pub fn new(alloc: Global, question: Question, text: &[u8]) -> Result<TitledQuestion, AllocError>
         ensures question { IfOk result (λ a. a.question ≡ question) }
         ensures title { IfOk result (λ a. a.title ≡ title_of text.now) }
         ensures string { IfOk result (λ a. a.string ≡ string_of text.now) }
     {
-        Ok(Asked {
+        Ok(TitledQuestion {
             question,
             title: Title::of(text),
             string: string_of(alloc, text)?,
@@ -69,11 +69,11 @@ pub enum Subject {
     /// Nothing but how many there are.
     DealsAlone,
     /// One question.
-    ByOne(Asked),
+    ByOne(TitledQuestion),
     /// Two questions: that of the rows, and that of the columns.
-    ByTwo(Asked, Asked),
+    ByTwo(TitledQuestion, TitledQuestion),
     /// Several questions, each with a table of its own.
-    ByEach(Vec<Asked>),
+    ByEach(Vec<TitledQuestion>),
 }
 
 /// How many rows a table of one question can have at most, or how many cells one of two.
@@ -97,7 +97,7 @@ impl Subject {
 }
 
 /// The most rows that a table of one of the questions can have: 0 if there are none.
-fn most_rows(asked: &[Asked]) -> u64
+fn most_rows(asked: &[TitledQuestion]) -> u64
     ensures { result ≡ most_rows asked.now }
 {
     let mut most = 0;

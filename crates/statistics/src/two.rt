@@ -12,7 +12,7 @@ mod page;
 mod table;
 
 use crate::one::One;
-use crate::subject::Asked;
+use crate::subject::TitledQuestion;
 use crate::sums::Sums;
 use cards::Deal;
 use std::alloc::{AllocError, Global};
@@ -23,7 +23,7 @@ use std::marker::Model;
 /// sum of their rows.
 pub(crate) struct Two {
     of: One,
-    by: Asked,
+    by: TitledQuestion,
     by_sums: Sums,
     cells: Vec<u64>,
     column_deals: Vec<u64>,
@@ -76,7 +76,11 @@ impl Two {
     ///
     /// # Errors
     /// `AllocError` if the allocation of a number for each cell failed.
-    pub(crate) fn new(alloc: Global, of: Asked, by: Asked) -> Result<Two, AllocError>
+    pub(crate) fn new(
+        alloc: Global,
+        of: TitledQuestion,
+        by: TitledQuestion,
+    ) -> Result<Two, AllocError>
         requires { rows_of of.question * rows_of by.question ≤ 2 ^ 20 }
         ensures rows { IfOk result (λ two. two.of.asked ≡ of) }
         ensures columns { IfOk result (λ two. two.by ≡ by) }

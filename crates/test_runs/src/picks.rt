@@ -3,8 +3,7 @@
 use crate::support::{equals, holds};
 use boards::{Captions, Plan};
 use input::numbers::{PickFault, pick};
-use input::{LineFault, RefusedLine};
-use input::{NoBytes, Reader};
+use input::{LineFault, NoBytes, Reader, RefusedLine};
 use notations::{AnyPrinter, Format};
 use sinks::{Fuse, MemSink};
 use std::alloc::{AllocError, AllocGlobal};

@@ -3,10 +3,10 @@
 ghost use Rattle.std.specs.Prelude.{◌≡◌, []};
 
 use crate::support::{equals, holds};
+use boards::Plan;
 use cards::{Candidates, Fixed, Seat};
 use cond_lang::{Cond, parse};
 use lanes::{JobAround, LaneIn, LaneOut, OpenGate, WorkEnd, lane, work_around};
-use boards::Plan;
 use std::alloc::Global;
 use std::process::Abort;
 use std::sync::atomic::AtomicBool;

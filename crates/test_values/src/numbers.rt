@@ -2,8 +2,7 @@
 
 use crate::support::same;
 use input::numbers::NumberScanner;
-use input::{LineFault, RefusedLine};
-use input::{NoBytes, Reader, Source, SourceFault};
+use input::{LineFault, NoBytes, Reader, RefusedLine, Source, SourceFault};
 use std::alloc::{AllocError, Global};
 use std::io::{self, Error, ErrorKind, Read};
 use std::process::Abort;

@@ -3,8 +3,8 @@ use Rattle.std.specs.Prelude.{◌&&◌, ◌||◌, Bool, not, List, [], ◌∷◌
 use Rattle.std.specs.Prelude.{codes, is_some, length, nat_lt, take, unwrap_or}
 use Rattle.clap.specs.Words.{Row, Rule, Text, all_of, first_of}
 use Rattle.clap.specs.declared.builder.value_parser.ValueParser.TheVariants as parsed
-use Rattle.boards.specs.declared.style.Style.{Style}
-use Rattle.boards.specs.declared.style.Style.TheVariants.{Csv, Html, Json, Table}
+use Rattle.boards.specs.declared.style.TableStyle.{TableStyle}
+use Rattle.boards.specs.declared.style.TableStyle.TheVariants.{Csv, Html, Json, Table}
 use Rattle.command_line.specs.Given.{choice_in}
 use Rattle.command_line.specs.Rules.{option_rule, repeated}
 use Rattle.requests.specs.Requests.{Questions, each_question, no_question, one_question, two_questions}
@@ -15,7 +15,7 @@ question_rules =
     ∷ option_rule (codes "by") parsed.String
     ∷ []
 
-abbrev pub styles : List (Text × Style)
+abbrev pub styles : List (Text × TableStyle)
 styles =
     (codes "table", Table) ∷ (codes "csv", Csv) ∷ (codes "html", Html) ∷ (codes "json", Json)
     ∷ []
@@ -33,7 +33,7 @@ of_texts rows = unwrap_or (all_of (codes "of") rows) []
 abbrev pub questions_in : List Row → Questions
 questions_in rows = questions_from (of_texts rows) (first_of (codes "by") rows)
 
-abbrev pub style_in : List Row → Style
+abbrev pub style_in : List Row → TableStyle
 style_in rows = unwrap_or (choice_in styles (codes "format") rows) Table
 
 -- there is a question for the columns of a table, and none for its rows

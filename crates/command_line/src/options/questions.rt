@@ -12,7 +12,7 @@ use crate::refusals::{COLUMNS_OF_SEVERAL, TOO_MANY};
 use crate::rows::{OptionRow, Takes, optional};
 use boards::{STYLE_WORDS, STYLES};
 use clap::ArgMatches;
-use requests::{MAX_QUESTIONS, Questions, Style, Texts};
+use requests::{MAX_QUESTIONS, Questions, TableStyle, Texts};
 
 pub(crate) const QUESTION_ROWS: &[OptionRow] = &[
     optional! { "of" Takes::Texts("TEXT") },
@@ -43,17 +43,17 @@ spreadsheets, html for a page, json for programs
 ];
 
 /// The format of `count`.
-pub(crate) static STYLE: OptionWords<Style> = OptionWords {
+pub(crate) static STYLE: OptionWords<TableStyle> = OptionWords {
     id: "format",
     values: STYLE_WORDS,
     table: STYLES,
 };
 
 /// How the table is written.
-pub(crate) fn style_in(matches: &ArgMatches) -> Style
+pub(crate) fn style_in(matches: &ArgMatches) -> TableStyle
     ensures { result ≡ style_in (rows_of (found_of matches.now)) }
 {
-    STYLE.given(matches).unwrap_or(Style::Table)
+    STYLE.given(matches).unwrap_or(TableStyle::Table)
 }
 
 /// What the options of questions were given.

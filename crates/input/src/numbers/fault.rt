@@ -3,8 +3,8 @@
 ghost use Rattle.std.specs.Prelude.{◌≡◌};
 ghost use Rattle.input.specs.declared.numbers.fault.PickFault.TheVariants.{Input};
 
-use crate::source::SourceFault;
 use crate::refused_line::RefusedLine;
+use crate::source::SourceFault;
 
 /// Why picking ended before the end of the input, or of what it says.
 #[derive(Clone, Copy, Debug, PartialEq, Eq)]

@@ -6,8 +6,8 @@ ghost use Rattle.input.specs.Scans.{line_from};
 ghost use Rattle.input.specs.internal.Lines.{start_of_line};
 ghost use Rattle.input.specs.declared.refused_line.LineFault.TheVariants.{NotANumber};
 
-use cards::MAX_CANDIDATES;
 use crate::refused_line::LineFault;
+use cards::MAX_CANDIDATES;
 use std::marker::Model;
 
 /// The most digits that a number has.

@@ -7,8 +7,8 @@ ghost use Rattle.input.specs.Scans.{HasScanned, after, line_from, list_of, said_
 ghost use Rattle.input.specs.internal.Lines.{start_of_line};
 
 use crate::numbers::line::NumberLine;
-use cards::MAX_CANDIDATES;
 use crate::refused_line::{LineFault, RefusedLine};
+use cards::MAX_CANDIDATES;
 use std::marker::Model;
 
 /// The most numbers that are read.

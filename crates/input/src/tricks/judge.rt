@@ -5,10 +5,10 @@ ghost use Rattle.pbn_text.specs.Games.{deal_text as text_of_deal};
 ghost use Rattle.std.specs.List.{list_all};
 ghost use Rattle.input.specs.Lines.{has_deal, if_same, is_deal_end, is_of_deal, told_of};
 
+use crate::refused_line::LineFault;
 use boards::Tricks;
 use cards::Deal;
 use pbn_text::deal_text;
-use crate::refused_line::LineFault;
 
 /// How many bytes the end of a line has that names a deal.
 const END: usize = 70;

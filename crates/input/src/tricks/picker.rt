@@ -7,6 +7,7 @@ ghost use Rattle.input.specs.Told.{FaultsIn, InputFaultsIn, IsReady, TellsBy, wr
 ghost use Rattle.input.specs.internal.TricksPicking.{text_of};
 
 use crate::numbers::PickFault;
+use crate::refused_line::LineFault;
 use crate::tricks::judge::judge;
 use crate::tricks::line::{LineEnd, TricksLine, read_text};
 use crate::tricks::teller::{put_board, put_end, refused, without_cr};
@@ -15,7 +16,6 @@ use crate::{MOST_BYTES, Source};
 use boards::{Board, Notation, Plan, Tricks, board_after};
 use cards::{DealsByNumber, MAX_CANDIDATES};
 use notations::AnyPrinter;
-use crate::refused_line::LineFault;
 use sinks::{Sink, put_all};
 
 /// No input has so many lines.

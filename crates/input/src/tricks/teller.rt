@@ -14,13 +14,13 @@ ghost use Rattle.input.specs.internal.Telling.{EndsAfter, PassesOver, Takes, Tol
 ghost use Rattle.input.specs.internal.Telling.{judged};
 
 use crate::numbers::PickFault;
+use crate::refused_line::{LineFault, RefusedLine};
 use crate::tricks::judge::judge;
 use crate::tricks::line::{LineEnd, TricksLine, read_line};
 use crate::{MOST_BYTES, Source};
 use boards::{Board, Notation, Plan, Tricks, board_after};
 use cards::{Deal, DealsByNumber};
 use notations::AnyPrinter;
-use crate::refused_line::{LineFault, RefusedLine};
 use sinks::{Sink, SinkFault, put_all};
 
 /// No input has so many lines.

@@ -4,10 +4,10 @@ use Rattle.std.specs.Coded.{Coded, code_by, coded_list, coded_ℕ, coded×}
 use Rattle.conditions.specs.Questions.{Question}
 use Rattle.conditions.specs.internal.FormCode.{question_code}
 use Rattle.statistics.specs.declared.sums.Sums.{Sums}
-use Rattle.statistics.specs.Counting.{Asked}
+use Rattle.statistics.specs.Counting.{TitledQuestion}
 use Rattle.statistics.specs.internal.Kept.{KeptEach, KeptOne, KeptTwo}
 
-abbrev pub asked_code : Coded Asked
+abbrev pub asked_code : Coded TitledQuestion
 asked_code =
     code_by (Question × (List ℕ × List ℕ))
     (coded× question_code (coded× (coded_list coded_ℕ) (coded_list coded_ℕ)))
@@ -31,7 +31,7 @@ sums_code =
 
 abbrev pub one_code : Coded KeptOne
 one_code =
-    code_by (Asked × (Sums × List ℕ))
+    code_by (TitledQuestion × (Sums × List ℕ))
     (coded× asked_code (coded× sums_code (coded_list coded_ℕ)))
     (λ o. (o.asked, (o.sums, o.counts)))
     (λ p. record { asked = p.0; sums = p.1.0; counts = p.1.1 })
@@ -46,7 +46,7 @@ each_code =
 
 abbrev pub two_code : Coded KeptTwo
 two_code =
-    code_by (KeptOne × (Asked × (Sums × (List ℕ × (List ℕ × List ℕ)))))
+    code_by (KeptOne × (TitledQuestion × (Sums × (List ℕ × (List ℕ × List ℕ)))))
     (coded× one_code (coded× asked_code (coded× sums_code
     (coded× (coded_list coded_ℕ) (coded× (coded_list coded_ℕ) (coded_list coded_ℕ))))))
     (λ t. (t.of, (t.by, (t.by_sums, (t.cells, (t.column_deals, t.column_sums))))))

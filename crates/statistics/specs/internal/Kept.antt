@@ -5,7 +5,7 @@ use Rattle.cards.specs.declared.seat.Seat.{Seat}
 use Rattle.conditions.specs.Questions.{rows_of}
 use Rattle.statistics.specs.declared.sums.Sums.{Sums}
 use Rattle.statistics.specs.Answers.{answers_of, count_of, greatest_of, least_of, squares}
-use Rattle.statistics.specs.Counting.{Asked, most_counted, most_deals}
+use Rattle.statistics.specs.Counting.{TitledQuestion, most_counted, most_deals}
 use Rattle.statistics.specs.TwoQuestions.{Pairs, cell, in_column, of_columns, of_rows}
 
 -- the sums of some answers
@@ -50,7 +50,7 @@ with_more numbers n amount = slice_set numbers n (slice_index numbers n + amount
 
 -- of one question: the sums of the answers, and how often each number is among them
 pub record KeptOne : Type 0 where
-  pub asked : Asked
+  pub asked : TitledQuestion
   pub sums : Sums
   pub counts : List ℕ
 
@@ -83,7 +83,7 @@ pub record IsKeptEach (each : KeptEach) : Type 0 where
   pub few : each.deals ≤ most_deals
   pub alike : All (λ one. one.sums.deals ≡ each.deals) each.ones
 
-abbrev pub asked_each : KeptEach → List Asked
+abbrev pub asked_each : KeptEach → List TitledQuestion
 asked_each each = map (λ one. one.asked) each.ones
 
 -- the deals are what was counted
@@ -103,7 +103,7 @@ pub record IsCounted (deal : List Seat) (old new : KeptOne) : Type 0 where
 -- how many deals each cell has, row by row, and of each column its deals and the sum of their rows
 pub record KeptTwo : Type 0 where
   pub of : KeptOne
-  pub by : Asked
+  pub by : TitledQuestion
   pub by_sums : Sums
   pub cells : List ℕ
   pub column_deals : List ℕ

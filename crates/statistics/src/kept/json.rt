@@ -1,7 +1,7 @@
 //! What is kept, as JSON.
 
 ghost use Rattle.std.specs.Prelude.{◌≡◌, ◌<◌, ◌-◌, ◌^◌, List};
-ghost use Rattle.boards.specs.declared.style.Style.TheVariants.{Json};
+ghost use Rattle.boards.specs.declared.style.TableStyle.TheVariants.{Json};
 ghost use Rattle.cards.specs.declared.seat.Seat.{Seat};
 ghost use Rattle.sinks.specs.Sinks.{AppendsOrBreaksOff, CountsFault};
 ghost use Rattle.statistics.specs.Counting.{count_text, json_questions};
@@ -10,7 +10,7 @@ ghost use Rattle.statistics.specs.internal.Counters.{Counts, asked_of, json_star
 use crate::json::put_member;
 use crate::kept::Kept;
 use crate::pieces::put_piece;
-use boards::{Style, TextBuffer};
+use boards::{TableStyle, TextBuffer};
 use sinks::{Sink, SinkFault, put_all};
 
 impl Kept {
@@ -45,7 +45,7 @@ impl Kept {
             Kept::Alone(_) => Ok(()),
             Kept::Rows(one) => one.put_json(sink),
             Kept::Cells(two) => two.put_json(sink),
-            Kept::Each(each) => each.put_parts(Style::Json, sink),
+            Kept::Each(each) => each.put_parts(TableStyle::Json, sink),
         }
     }
 }

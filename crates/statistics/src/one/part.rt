@@ -14,7 +14,7 @@ use crate::line_style::LineStyle;
 use crate::one::One;
 use crate::page::put_escaped;
 use crate::pieces::put_piece;
-use boards::{Style, TextBuffer};
+use boards::{TableStyle, TextBuffer};
 use sinks::{Sink, SinkFault};
 
 impl One {
@@ -25,7 +25,7 @@ impl One {
     /// `SinkFault` if the sink failed: a proper prefix of the text was written.
     pub(crate) fn put_part<S: Sink>(
         &self,
-        style: Style,
+        style: TableStyle,
         number: u64,
         sink: &mut S,
     ) -> Result<(), SinkFault>
@@ -37,13 +37,13 @@ impl One {
         ensures faults { CountsFault (S.faults sink.old) (S.faults sink.new) result }
     {
         match style {
-            Style::Table => self.put(LineStyle::Table, self.widths(), sink),
-            Style::Csv => self.put_numbered(number, sink),
-            Style::Html => {
+            TableStyle::Table => self.put(LineStyle::Table, self.widths(), sink),
+            TableStyle::Csv => self.put_numbered(number, sink),
+            TableStyle::Html => {
                 put_piece(sink, &self.heading())?;
                 self.put(LineStyle::Html, self.widths(), sink)
             }
-            Style::Json => {
+            TableStyle::Json => {
                 put_piece(sink, &comma_before(number))?;
                 self.put_json(sink)
             }

@@ -2,7 +2,7 @@ use Rattle.std.proofs.Common.{◌≡◌, ◌∙◌, ℕ, ap, length, subst, sym}
 use Rattle.std.proofs.lemmas.Result.{MatchResult-from_err}
 use Rattle.sinks.specs.Appended.{AppendsAll, AppendsPart}
 use Rattle.sinks.specs.Sinks.{AppendsOrBreaksOff}
-use Rattle.boards.specs.declared.style.Style.TheVariants.{Csv}
+use Rattle.boards.specs.declared.style.TableStyle.TheVariants.{Csv}
 use Rattle.statistics.specs.declared.line_style.LineStyle.{LineStyle}
 use Rattle.statistics.specs.Counting.{parts_text}
 use Rattle.statistics.specs.Csv.{csv_counts}
