@@ -5,6 +5,7 @@ pub mod Headings
 pub mod Layouts
 pub mod Letters
 pub mod Formats
+pub mod Html
 pub mod Show
 pub mod TricksLines
 pub mod TricksTags

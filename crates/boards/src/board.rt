@@ -6,8 +6,8 @@ ghost use Rattle.boards.specs.Law2.{board_by_law};
 use crate::{Vul, dealer, vulnerable};
 use cards::{Deal, Seat};
 
-/// A board: its number, at least 1, the number of the candidate that it deals, who is dealer, which
-/// sides are vulnerable, and the deal.
+/// A board: its number, at least 1, the number of the candidate that it deals, or 2^40 if it deals
+/// none, the dealer, the vulnerable sides, and the deal.
 #[derive(Clone, Copy, Drop)]
 pub struct Board {
     pub number: u64,

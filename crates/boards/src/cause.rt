@@ -15,9 +15,9 @@ pub enum Cause {
     Spawn,
     /// The sink failed.
     Output,
-    /// A worker was stopped before it had sent all: the least such worker.
+    /// A worker was stopped before it had sent all: the one with the lowest number.
     Stopped { worker: u32 },
-    /// A lane can't say how it ended: that of the least such worker.
+    /// A lane can't say how it ended: that of the worker with the lowest number.
     Unclosed { worker: u32 },
 }
 

@@ -1,16 +1,16 @@
-//! Boards: the plan of a run, which boards it makes of the accepted candidates, and what notations
-//! have, which write them as text.
+//! Boards: the plan of a run, the boards that it makes from the accepted candidates, and what the
+//! notations that write them share.
 //!
-//! A `Plan` tells which candidates of a seed are tried and which boards are made of them: a board's
-//! number, its deal, and its dealer and vulnerability, by Law 2 or by a `Setting`. `run_plain_in`
-//! writes the text of a plan as its definition reads, on one thread. It runs in tests, and the run
-//! over lanes is compared with it. A `Cause` interrupts a run, and a `Report` is told of one that
-//! wrote all that its plan asks for.
+//! A `Plan` says which candidates of a seed are tried and which boards are made from them: each
+//! board's number, deal, dealer and vulnerability, by Law 2 or by a `Setting`. `run_plain_in`
+//! writes a plan's text on one thread, the way its definition reads; tests compare the run over
+//! lanes with it. A `Cause` says why a run was interrupted, and a `Report` sums up one that wrote
+//! all that its plan asks for.
 //!
-//! A `Heading` has the labels of all boards; `Captions` are to a page what labels are to a game of
-//! Portable Bridge Notation, in any letters. A `Notation` writes boards and knows nothing of runs.
-//! To write one, notations share a `TextBuffer` and the `SuitLetters`. A `Format` names one, a
-//! `Show` says which hands of a board it writes, and `Tricks` are what may be known of a board.
+//! A `Heading` has the labels of all boards; `Captions` are labels in any letters, as a page may
+//! have them. A `Notation` writes boards and knows nothing of runs; notations share a `TextBuffer`
+//! and the `SuitLetters`. A `Format` names a notation, a `Show` says which hands it writes, and
+//! `Tricks` are what is known of a board's tricks and par.
 #![tactic(auto)]
 
 mod board;
@@ -20,6 +20,7 @@ mod captions;
 mod cause;
 mod format;
 mod heading;
+pub mod html;
 pub mod laws;
 mod next_board;
 mod notation;

@@ -9,7 +9,7 @@ use crate::{Board, Notation, Plan};
 use cards::Deal;
 use sinks::{Sink, SinkFault, put_all};
 
-/// Whether the plan has its limit of boards.
+/// Whether so many boards are the limit of the plan; false if it has none.
 pub fn is_full(plan: &Plan, boards: u64) -> bool
     ensures { IsTrue result ↔ (plan.now.limit ≡ Some boards) }
 {
@@ -19,7 +19,7 @@ pub fn is_full(plan: &Plan, boards: u64) -> bool
     }
 }
 
-/// The board of a candidate's deal, after `boards` of them, by the plan's setting.
+/// Returns the board of a candidate's deal after `boards` others, at most 2^40, by the setting.
 pub fn board_after(plan: &Plan, boards: u64, candidate: u64, deal: &Deal) -> Board
     requires { boards ≤ 2 ^ 40 }
     ensures { result ≡ board_of plan.now boards candidate deal.now }

@@ -8,12 +8,12 @@ ghost use Rattle.sinks.specs.Sinks.{AppendsOrBreaksOff, CountsFault};
 use crate::Board;
 use sinks::{Sink, SinkFault};
 
-/// Writes boards, as PBN or as a table of counts: a text is its header, the boards in order, and
-/// its footer.
+/// Writes boards, as PBN or as a table of counts: a text is a header, the boards in order, and a
+/// footer.
 ///
-/// The three are told by the layout, which no call changes. A notation holds the text of one board
-/// at a time: `print` writes it, and `text` lends it. A board may have no text, as where only the
-/// footer tells of the boards.
+/// The layout defines the three, and no call changes it. A notation holds the text of one board at
+/// a time: `print` writes it, and `text` returns it. A board may have no text, as in a table of
+/// counts, which is written by the footer alone.
 pub trait Notation {
     /// What comes before the boards, the text of each board, and what comes after them.
     ghost layout: { Self → Layout };

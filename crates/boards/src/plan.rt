@@ -88,12 +88,12 @@ impl Model for Plan {
 }
 
 impl Plan {
-    /// A plan without a limit, with boards from 1, by Law 2, no heading and no fixed card.
+    /// Returns a plan with no limit, boards numbered from 1, Law 2, no heading and no fixed card.
     ///
     /// # Errors
     ///
-    /// `Range` if `first + count` is above 2^40; else `Workers` if they aren't 1 to 16; else
-    /// `Capacity` if it isn't 1 to 4,096.
+    /// `Range` if `first + count` is above 2^40; else `Workers` unless `workers` is 1 to 16; else
+    /// `Capacity` unless `capacity` is 1 to 4,096.
     pub fn new(
         seed: u32,
         first: u64,
@@ -178,7 +178,7 @@ impl Plan {
         })
     }
 
-    /// The plan with this number of workers.
+    /// Returns the plan with this many workers, 1 to 16.
     pub fn with_workers(self, workers: u32) -> Plan
         requires { (0 < workers) × (workers ≤ 16) }
         ensures { result ≡ record self { workers = workers } }
@@ -246,7 +246,7 @@ impl Plan {
         self.capacity
     }
 
-    /// The most boards that are written.
+    /// The most boards that are written, at least 1; `None` without a limit.
     pub fn limit(&self) -> Option<u32>
         ensures value { result ≡ self.now.limit }
         ensures some { IfSome result (λ most. 0 < most) }

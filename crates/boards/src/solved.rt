@@ -8,8 +8,8 @@ use crate::{Board, Tricks};
 /// Writes boards with what is known of their tricks: a text is its header, the boards in order, and
 /// its footer.
 ///
-/// The three are told by the layout, which no call changes. As with a `Notation`, `print` writes
-/// the text of one board, and `text` lends it.
+/// The layout defines the three, and no call changes it. As with a `Notation`, `print` writes the
+/// text of one board, and `text` returns it.
 pub trait SolvedNotation {
     /// What comes before the boards, the text of each board, and what comes after them.
     ghost layout: { Self → SolvedLayout };

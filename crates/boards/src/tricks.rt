@@ -47,8 +47,8 @@ impl Model for Tricks {
 }
 
 impl Tricks {
-    /// Returns what a line tells, without its end, or `None` if and only if it is no such line.
-    /// Capital digits are made small.
+    /// Reads a line without its line ending. Returns `None` if and only if it is malformed. The
+    /// digits `A` to `D` are read as `a` to `d`.
     pub fn read(line: &[u8]) -> Option<Tricks>
         ensures { result ≡ told line.now }
     {
@@ -77,9 +77,9 @@ impl Tricks {
         Some(Tricks::with_par(tricks, side, points, contract))
     }
 
-    /// Returns what the values of the tags `DoubleDummyTricks`, `OptimumScore` and `ParContract`
-    /// tell, which are empty where there is no such tag. A value that isn't of its form tells
-    /// nothing, nor does par without tricks, nor a contract without its score.
+    /// Reads the values of the tags `DoubleDummyTricks`, `OptimumScore` and `ParContract`, each
+    /// empty if there is no such tag. A malformed value is ignored, and so are par without tricks
+    /// and a contract without a score.
     #[tactic(auto, unfolding(crate::specs::TricksTags::tagged))]
     pub fn tagged(tricks: &[u8], score: &[u8], contract: &[u8]) -> Tricks
         ensures { result ≡ tagged tricks.now score.now contract.now }

@@ -124,8 +124,8 @@ fn asks_page(words: &[String]) -> bool
 ///
 /// # Errors
 ///
-/// `Error` if the words ask for nothing, with clap's text, as for help; for words that ask for
-/// something only if memory ran out.
+/// `Error`, with clap's text, if the words are refused, or ask for help or the version; for words
+/// that make a request only if memory ran out.
 pub fn read_words<'a>(alloc: Global, words: &'a [String]) -> Result<Request<'a>, Error>
     ensures { AreRead (map string_bytes words.entry.now) result }
 {

@@ -4,12 +4,12 @@
 //! write them, both proved to write the text that the definition gives:
 //! - `run_in`, the fast one: workers in threads of their own judge the candidates, and the caller's
 //!   thread writes (`runs.rt`, `start.rt`, `writer.rt`, `join.rt`).
-//! - `run_plain_in`, the reference of the crate `plans`, which reads as the definition. It runs in
-//!   tests.
+//! - `run_plain_in`, the reference of the crate `boards`, which reads like the definition. It runs
+//!   in tests.
 //!
-//! They write in any notation; `run` and `run_plain` write PBN (`pbn.rt`). What the crates `plans`
-//! and `sinks` export has its names here too. `stream` writes the values of the generator,
-//! without a plan (`values.rt`).
+//! They write in any notation; `run` and `run_plain` write PBN (`pbn.rt`). Names of the crates
+//! `boards` and `sinks` that go with runs are exported here too. `stream` writes the values of the
+//! generator, without a plan (`values.rt`).
 #![tactic(auto)]
 
 mod join;

@@ -20,8 +20,8 @@ fn line_of(value: u32) -> ArrayVec<u8, 11>
     text
 }
 
-/// Writes the first `count` values of a seed (POSIX `nrand48` after `srand48`), in decimal, a line
-/// each.
+/// Writes the first `count` values of a seed, at most 2^40 (POSIX `nrand48` after `srand48`), in
+/// decimal, one per line.
 ///
 /// # Errors
 /// `SinkFault` if the sink failed: a proper prefix of that text was written.

@@ -117,8 +117,8 @@ pub fn as_asked(
 }
 
 /// What there is to note of a run that ended well: that fewer boards came than were asked for,
-/// unless all deals were tried, or where boards were to be shown that the input had none, or one
-/// line alone.
+/// unless all deals were tried; or, of a `show`, that the input had no boards, or that CR alone
+/// ends its lines.
 pub fn note_after(
     alloc: Global,
     read: &Result<Request<'_>, Error>,

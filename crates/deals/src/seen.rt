@@ -19,8 +19,8 @@ enum End {
     CrAlone,
 }
 
-/// The first bytes of an input, how its first line ends, and how much of the beginning of a Deal
-/// tag came last, or one more once that and the end of its name came.
+/// The first bytes of an input, how its first line ends, and how many bytes of `[Deal` were seen
+/// last, or one more than all of them once the tag's name ended after them.
 #[derive(Clone, Copy)]
 pub struct Seen {
     first: [u8; FIRST],

@@ -201,7 +201,7 @@ pub fn hints_of(words: &[String], read: &Result<Request<'_>, Error>) -> When {
     }
 }
 
-/// Whether it is time, by what standard error is.
+/// Whether hints are said; with `Auto`, whether standard error is a terminal.
 pub fn hints_are_on(rt: &HostRuntime, when: When) -> bool {
     match when {
         When::Auto => rt.stderr().is_terminal(),

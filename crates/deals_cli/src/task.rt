@@ -49,12 +49,12 @@ fn text_of(alloc: Global, words: &[String], error: &Error) -> Result<String, Fai
     Ok(text)
 }
 
-/// Returns the task that the words ask for, of which `read_words` read this.
+/// Returns the task that the words ask for, where `read` is what `read_words` made of them.
 ///
 /// # Errors
 ///
-/// `CommandLine` if the words ask for nothing; else the first refusal of the plan, a label, a hand
-/// or the condition; `Interrupted` if memory ran out.
+/// `CommandLine` if the words are refused; else the first refusal, as for `jobs::prepare`;
+/// `Interrupted` if memory ran out.
 pub fn prepare(
     alloc: Global,
     words: &[String],

@@ -21,9 +21,9 @@ const WHOLE: usize = 72;
 
 const PART: usize = 70;
 
-/// Returns what helps a person with a request that is refused so, to be printed below the line that
-/// names the refusal: a line with the option, what it was given, and what it takes. There is none
-/// unless a plan, a label or a hand is refused.
+/// Returns a line to be printed below the one that names the refusal of a plan, a label or a hand:
+/// the option, what it was given, and what it takes. Returns `None` for any other failure, and if
+/// there is nothing wrong with the hand.
 ///
 /// What a label or a hand was given is shown as on a terminal, cut to 72 columns.
 ///

@@ -24,11 +24,11 @@ pub trait Source {
     /// How many calls failed.
     ghost faults: { Self → ℕ };
 
-    /// Gives its next bytes into the front of a piece, and returns how many: none at its end alone.
-    /// A source gives at most 2^50 bytes; one that has more fails there.
+    /// Reads the next bytes into the front of `piece`, which isn't empty. Returns how many; 0 only
+    /// at the end. A source gives at most 2^50 bytes: it fails rather than risk giving more.
     ///
     /// # Errors
-    /// `SourceFault` if it couldn't: nothing is given, and the faults rise by one.
+    /// `SourceFault` if it couldn't be read: nothing is given, and the fault count rises by one.
     fn read(&mut self, piece: &mut [u8]) -> Result<usize, SourceFault>
         requires room { 0 < length piece.old }
         requires faults { faults self.old < 2 ^ 64 - 1 }

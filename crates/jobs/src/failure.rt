@@ -32,11 +32,11 @@ pub enum Failure {
     Label(LabelName),
     /// The text of this seat's hand is malformed, or has a card of an earlier one.
     Hand(Seat),
-    /// The definitions are refused, and not since memory ran out.
+    /// The definitions are refused, but not because memory ran out.
     Definitions(CondError),
-    /// The condition is refused, and not since memory ran out.
+    /// The condition is refused, but not because memory ran out.
     Condition(CondError),
-    /// The text of a question is refused, and not since memory ran out.
+    /// The text of a question is refused, but not because memory ran out.
     Question(QuestionName, CondError),
     /// The table of the answers could have more than 1,048,576 cells; with the last question.
     Cells(QuestionName),

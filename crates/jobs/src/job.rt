@@ -54,8 +54,8 @@ pub struct ShowJob {
 ///
 /// # Errors
 ///
-/// The first refusal that is due: of the plan, the labels, the hands, the condition, or the
-/// questions; or `Interrupted` if memory ran out.
+/// The first refusal, in this order: of the plan, the labels, the hands, the definitions, the
+/// condition, the questions, or their table's size; or `Interrupted` if memory ran out.
 pub fn prepare(alloc: Global, request: &Request<'_>) -> Result<Job, Failure>
     ensures ready { IfOk result (IsReady (wish_of request.now)) }
     ensures refused { IfErr result (IsRefused (wish_of request.now)) }

@@ -7,9 +7,8 @@ ghost use Rattle.conditions.specs.Meaning.{holds};
 ghost use Rattle.jobs.specs.Makings.{HasLabels, Means, TextMeans, heading_of, title_of};
 ghost use Rattle.requests.specs.Requests.{Look as ALook, Search as ASearch};
 
-/// With a lesson and a condition, each a text of its own of which only the condition is after the
-/// definitions, a deal is accepted if and only if both
-/// hold of it.
+/// With a lesson and a condition, a deal is accepted if and only if both hold of it. Each is a text
+/// of its own, and only the condition is after the definitions.
 pub fn a_lesson_and_a_condition()
     ensures { (s : ASearch) (lesson given : List ℕ) → s.lesson ≡ Some lesson
         → s.where_text ≡ Some given → (form : Form) → Means s form

@@ -76,8 +76,8 @@ fn last_of(questions: &Questions<'_>) -> QuestionName
     }
 }
 
-/// Returns what the texts ask. The first that is refused is told, and then that the table could
-/// have too many cells.
+/// Returns what the texts ask. The error is that of the first text that is refused, or else that
+/// the table could have too many cells.
 pub(crate) fn read_subject(
     alloc: Global,
     definitions: Option<&str>,

@@ -5,9 +5,9 @@
 //! is waited for. All steps are in one order, as each is `SeqCst`: so either the first end sees at
 //! its last look what was made, or the other one sees that it listens.
 //!
-//! No bell rings for each verdict, since to wake a thread takes longer than to judge many
-//! candidates. It rings once there is half a lane's content or more to go on with, of a short lane
-//! all of it, when the worker is about to wait itself, and when it closes the lane.
+//! Waking a thread takes longer than judging many candidates. So a bell rings for a block only once
+//! half a lane or more is ready, or all of a short one. It also rings when the worker sends a
+//! single verdict, is about to wait, or closes the lane, and when the run is stopped.
 
 use std::sync::Wait;
 use std::sync::atomic::{AtomicU64, Ordering};
@@ -23,8 +23,8 @@ const LISTENS: u64 = 1;
 /// whose other end is slow; and a bell that is lost costs no more.
 const LONGEST_SLEEP: u64 = 4;
 
-/// So many verdicts or slots are worth waking an end for: that takes as long as some dozens of
-/// candidates.
+/// How many verdicts or slots are worth waking an end for: to wake it takes as long as judging
+/// dozens of candidates.
 const WORTH_WAKING: usize = 64;
 
 /// How many slots or verdicts a ring of this capacity has left, at most, once the end that listens

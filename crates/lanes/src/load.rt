@@ -1,7 +1,7 @@
 //! What the ends of a lane know of the machine's load: whether it is quiet, so that a yield takes
-//! next to no time, or busy. It counts as busy for the first waits, of which a short run has no
-//! others. Long yields, which `pause.rt` tells, start a number of waits for which it does again. If
-//! there are long yields soon after them, four times as many follow.
+//! next to no time, or busy. It counts as busy for the first waits; a short run has no others.
+//! After long yields, which `pause.rt` detects, it counts as busy again for a number of waits, and
+//! for four times as many if more long yields come soon after.
 
 use std::sync::atomic::{AtomicU64, Ordering};
 
@@ -17,7 +17,7 @@ const MOST_WAITS: u64 = 16_384;
 /// How many times as many follow each time.
 const GROWTH: u64 = 4;
 
-/// For how many times as many waits a long yield counts as soon after the last ones.
+/// Long yields count as soon after the last ones for this many times as many waits.
 const TIMES_SOON: u64 = 4;
 
 /// How high the load is, as far as it is known. It is shared by both ends of a lane, and not

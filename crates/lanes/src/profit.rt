@@ -8,8 +8,8 @@ const ANSWERS: u32 = 1024;
 /// A test is worth its time if it gives up one candidate of this many, or more.
 const ONE_OF: u32 = 16;
 
-/// Whether a test is worth its time, by how many answers it gave and how many candidates it gave up
-/// since that was last found out. A test that is not worth its time is not asked again.
+/// Whether a test is worth its time, and how many answers it gave and candidates it gave up since
+/// that was last decided. A test that is not worth its time is not asked again.
 #[derive(Clone, Copy, Drop)]
 pub(crate) struct Profit {
     pays: bool,

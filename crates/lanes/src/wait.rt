@@ -12,8 +12,8 @@
 //! does not look at once for each verdict, but pauses between two looks (`pause.rt`), and goes on
 //! with about half a lane's content.
 //!
-//! One loop a lane's end: look at the stop flag, pause, count. It ends with enough, with less once
-//! the other end makes no progress, or without when the flag is up.
+//! Each end waits in one loop: look at the stop flag, pause, count. The loop ends once there is
+//! enough, or less while the other end makes no progress, or when the flag is up.
 
 ghost use Rattle.std.specs.Prelude.{◌≡◌, ◌+◌, ◌<◌, ◌≤◌, ◌↔◌, true, false};
 ghost use Rattle.lanes.specs.declared.wait.Pace.TheVariants.{Spins};
@@ -45,7 +45,7 @@ impl Pace {
     }
 }
 
-/// That the stop flag is up: `raise` alone makes it, so whoever has it comes after the raising.
+/// Evidence that the stop flag was raised: only `raise` makes it.
 #[derive(Clone, Copy)]
 pub(crate) struct Raised(());
 
@@ -80,8 +80,8 @@ impl LaneIn {
 }
 
 impl LaneOut {
-    /// Waits until a verdict can be taken. Returns true once one can, and false if the stop flag is
-    /// up and none waits. It may wait: on a settled lane with nothing left until the flag is up.
+    /// Blocks until a verdict can be taken. Returns true once one can, and false if the stop flag
+    /// is up and none waits. On a settled lane with nothing left it blocks until the flag is up.
     #[inline(always)]
     pub fn wait_for_verdict<R: Wait>(&mut self, rt: &R, stop: &AtomicBool) -> bool
         ensures same { (self.new.ring ≡ self.old.ring) × (self.new.settled ≡ self.old.settled) }

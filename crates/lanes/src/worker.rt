@@ -24,10 +24,10 @@ use std::alloc::Global;
 use std::sync::atomic::{AtomicBool, Ordering};
 use std::sync::{Arc, Wait};
 
-/// Is asked once for each candidate, by the worker with this number, before the candidate's verdict
-/// is sent, unless it says that it is open; `false` stops the whole run. By then a worker may have
-/// judged the candidate and up to 15 after it. It is shared between the workers' threads, and may
-/// wait.
+/// Decides whether a run may go on. Unless the gate is open, each worker asks it once for each of
+/// its candidates, before it sends the verdict; `false` stops the whole run. By then the worker may
+/// have judged the candidate and up to 15 of its share after it. The workers' threads share the
+/// gate, and it may block.
 pub trait Gate {
     /// Returns whether this worker may go on with the candidate of this number.
     fn pass(&self, worker: u32, number: u64) -> bool;
@@ -68,9 +68,9 @@ pub enum WorkEnd {
     Unclosed,
 }
 
-/// Sends the verdicts of the job's share in order, until all are sent, the gate returns false or
-/// the stop flag is up. In the last two cases it raises the flag, and then closes the lane. It may
-/// wait.
+/// Sends the verdicts of the job's share in order into a lane that is unused so far, until all are
+/// sent, the gate returns false or the stop flag is up; in the last two cases it raises the flag.
+/// Then it closes the lane. It may block.
 pub fn work<R: Wait + Drop, G: Gate + Drop>(
     rt: R,
     job: Job,

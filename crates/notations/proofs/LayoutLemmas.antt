@@ -7,7 +7,7 @@ use Rattle.boards.specs.declared.format.Format.{Format}
 use Rattle.boards.specs.declared.format.Format.TheVariants.{Pbn}
 use Rattle.boards.specs.declared.show.Show.{Show}
 use Rattle.boards.specs.declared.show.Seats.{Seats}
-use Rattle.boards.specs.declared.show.Seats.TheVariants.{All, Dealer, North, East, South, West, NorthSouth, EastWest}
+use Rattle.boards.specs.declared.show.Seats.TheVariants.{All}
 use Rattle.notations.specs.Formats.{board_text, footer_of, header_of, layout_by, layout_showing}
 use Rattle.notations.proofs.GameLemmas.{plain_game}
 use Rattle.boards.specs.TricksLines.{nothing_known}

@@ -2,6 +2,7 @@
 use Rattle.std.specs.Prelude.{◌≡◌, ℕ, ◌+◌, ◌-◌, min, nat_lt, List, [], Option, None, Some, Bool, true, false}
 use Rattle.std.specs.Prelude.{length, if◌then◌else◌, slice_get, ⊤, refl}
 use Rattle.boards.specs.declared.board.Board.{Board}
+use Rattle.boards.specs.Html.{html_end}
 use Rattle.boards.specs.Layouts.{EndsAlike, Layout, SolvedLayout, ends_with}
 use Rattle.pbn_text.specs.Games.{HeadingView, header, pbn}
 use Rattle.boards.specs.declared.format.Format.{Format}
@@ -52,9 +53,9 @@ board_text Numbers show heading tricks board = number_line board
 
 -- what comes after the boards
 abbrev pub footer_of : Format → List ℕ
-footer_of Html = pages.footer_text
-footer_of Sheet = pages.footer_text
-footer_of Slips = pages.footer_text
+footer_of Html = html_end
+footer_of Sheet = html_end
+footer_of Slips = html_end
 footer_of _ = []
 
 -- ---- layouts

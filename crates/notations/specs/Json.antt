@@ -1,10 +1,9 @@
 -- JSON: a line a board, without header and footer.
 use Rattle.std.specs.Prelude.{ℕ, ◌^◌, nat_lt, List, [], ◌++◌, codes, decimal, if◌then◌else◌}
 use Rattle.boards.specs.declared.board.Board.{Board}
-use Rattle.pbn_text.specs.Games.{dealer_text}
+use Rattle.pbn_text.specs.Games.{dealer_text, vulnerable_text}
 use Rattle.boards.specs.declared.show.Show.{Show}
 use Rattle.notations.specs.Dotted.{deal_value}
-use Rattle.notations.specs.Names.{vulnerable_name}
 use Rattle.boards.specs.Show.{hand_in}
 use Rattle.notations.specs.Tricks.{if_given, par_text}
 use Rattle.boards.specs.TricksLines.{TricksView}
@@ -26,7 +25,7 @@ unfoldable pub json_line : Show → TricksView → Board → List ℕ
 json_line show tricks board =
     codes "{\"board\":" ++ decimal board.number
     ++ codes ",\"dealer\":\"" ++ dealer_text board.dealer
-    ++ codes "\",\"vulnerable\":\"" ++ vulnerable_name board.vulnerable
+    ++ codes "\",\"vulnerable\":\"" ++ vulnerable_text board.vulnerable
     ++ codes "\",\"deal\":\"" ++ deal_value (hand_in show board)
     ++ codes "\"" ++ number_member board.candidate
     ++ tricks_members tricks

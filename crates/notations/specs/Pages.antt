@@ -10,10 +10,11 @@ use Rattle.cards.specs.declared.suit.Suit.TheVariants.{Spades, Hearts, Diamonds,
 use Rattle.cards.specs.Hands.{points_of}
 use Rattle.boards.specs.declared.board.Board.{Board}
 use Rattle.boards.specs.declared.setting.Vul.{Vul}
+use Rattle.boards.specs.Html.{body_start, html_start}
 use Rattle.boards.specs.Letters.{or_dash, suit_letters}
-use Rattle.pbn_text.specs.Games.{HeadingView, dealer_text}
+use Rattle.pbn_text.specs.Games.{HeadingView, dealer_text, vulnerable_text}
 use Rattle.boards.specs.declared.show.Show.{Show}
-use Rattle.notations.specs.Names.{seat_name, vulnerable_name}
+use Rattle.notations.specs.Names.{seat_name}
 use Rattle.boards.specs.Show.{counted_in, hand_in}
 use Rattle.notations.specs.Tricks.{five_of, if_given, number_of}
 use Rattle.boards.specs.TricksLines.{TricksView}
@@ -44,35 +45,12 @@ abbrev pub title_of : HeadingView → List ℕ
 title_of heading =
     or_boards (joined (joined (shown heading.event) (shown heading.site)) (shown heading.date))
 
--- &, < and > as HTML has them in a text
-unfoldable pub escaped_byte : ℕ → List ℕ
-escaped_byte byte =
-    if byte == 0x26 then codes "&amp;"
-    else if byte == 0x3C then codes "&lt;"
-    else if byte == 0x3E then codes "&gt;"
-    else byte ∷ []
-
-abbrev pub escaped : List ℕ → List ℕ
-escaped text = flat_map escaped_byte text
-
--- ---- the header and the footer
-
--- up to the title
-unfoldable pub opening : List ℕ
-opening =
-    codes "<!DOCTYPE html>\n<html lang=\"en\">\n<head>\n<meta charset=\"utf-8\">\n"
-    ++ codes "<meta name=\"viewport\" content=\"width=device-width, initial-scale=1\">\n"
+-- ---- the header
 
 -- the title, a style, and the title again as the heading
 unfoldable pub header_text : (List ℕ → List ℕ) → HeadingView → List ℕ
 header_text style heading =
-    opening
-    ++ codes "<title>" ++ escaped (title_of heading) ++ codes "</title>\n<style>\n"
-    ++ style (title_of heading) ++ codes "</style>\n</head>\n<body>\n<main>\n<h1>"
-    ++ escaped (title_of heading) ++ codes "</h1>\n"
-
-unfoldable pub footer_text : List ℕ
-footer_text = codes "</main>\n</body>\n</html>\n"
+    html_start (title_of heading) ++ style (title_of heading) ++ body_start (title_of heading)
 
 -- ---- a board
 
@@ -128,14 +106,14 @@ hands_text hand counted =
 -- the board's number, on the table
 unfoldable pub number_text : Vul → ℕ → List ℕ
 number_text vulnerable number =
-    codes "<h2 class=\"" ++ vulnerable_name vulnerable
+    codes "<h2 class=\"" ++ vulnerable_text vulnerable
     ++ codes "\">Board " ++ decimal number ++ codes "</h2>\n"
 
 -- who deals, and which sides are vulnerable
 unfoldable pub facts_text : Seat → Vul → List ℕ
 facts_text dealer vulnerable =
     codes "<p>Dealer " ++ seat_name dealer
-    ++ codes "<br>Vul " ++ vulnerable_name vulnerable ++ codes "</p>\n"
+    ++ codes "<br>Vul " ++ vulnerable_text vulnerable ++ codes "</p>\n"
 
 -- ---- tricks
 

@@ -7,14 +7,13 @@ use Rattle.cards.specs.declared.suit.Suit.TheVariants.{Spades, Hearts, Diamonds,
 use Rattle.cards.specs.Hands.{points_of}
 use Rattle.boards.specs.declared.board.Board.{Board}
 use Rattle.boards.specs.Letters.{or_dash, suit_letters}
-use Rattle.pbn_text.specs.Games.{HeadingView}
+use Rattle.pbn_text.specs.Games.{HeadingView, dealer_text, vulnerable_text}
 use Rattle.std.specs.List.{flat_map}
 use Rattle.boards.specs.declared.show.Show.{Show}
 use Rattle.notations.specs.Columns.{beside, line, spaces, two_columns}
-use Rattle.notations.specs.Names.{seat_name, vulnerable_name}
+use Rattle.notations.specs.Names.{seat_name}
 use Rattle.boards.specs.Show.{counted_in, hand_in}
 use Rattle.notations.specs.Tricks.{five_of, if_given, number_of, par_text}
-use Rattle.pbn_text.specs.Games.{dealer_text}
 use Rattle.boards.specs.TricksLines.{TricksView}
 
 -- the sign of a suit, ♠, ♥, ♦ or ♣, which is a character of three bytes, and a space
@@ -62,7 +61,7 @@ abbrev pub north_lines : Board → Option (List Bool) → List ℕ
 north_lines board north =
     number_line board.number north
     ++ suit_line (codes "Dealer " ++ seat_name board.dealer) north Hearts
-    ++ suit_line (codes "Vul " ++ vulnerable_name board.vulnerable) north Diamonds
+    ++ suit_line (codes "Vul " ++ vulnerable_text board.vulnerable) north Diamonds
     ++ suit_line [] north Clubs
 
 -- West's suits and East's

@@ -7,7 +7,8 @@ use Rattle.cards.specs.Hands.{points_of}
 use Rattle.boards.specs.declared.board.Board.{Board}
 use Rattle.boards.specs.declared.setting.Vul.{Vul}
 use Rattle.boards.specs.declared.show.Show.{Show}
-use Rattle.notations.specs.Names.{seat_name, vulnerable_name}
+use Rattle.notations.specs.Names.{seat_name}
+use Rattle.pbn_text.specs.Games.{vulnerable_text}
 use Rattle.notations.specs.Pages.{facts_text, suits_text, tricks_text}
 use Rattle.boards.specs.Show.{counted_in, hand_in}
 use Rattle.boards.specs.TricksLines.{TricksView}
@@ -48,7 +49,7 @@ all_points counted =
 -- these, in their seats around the table
 unfoldable pub middle_text : Vul → (Seat → Option (List Bool)) → List ℕ
 middle_text vulnerable counted =
-    codes "<div class=\"middle " ++ vulnerable_name vulnerable ++ codes "\">"
+    codes "<div class=\"middle " ++ vulnerable_text vulnerable ++ codes "\">"
     ++ all_points counted ++ codes "</div>\n"
 
 -- a section of what the board is, its four hands, their points, and what is known of the tricks

@@ -60,15 +60,3 @@ fn put_dotted(text: &mut TextBuffer, letters: &SuitLetters, hand: &Hand, suit: S
     let entry = letters.with_dot(hand, suit);
     text.put_first(&entry, usize::from(entry[15]) + 1);
 }
-
-/// The dealer or declarer as a letter.
-pub(crate) fn seat_letter(seat: Seat) -> [u8; 1]
-    ensures { result ≡ dealer_text seat }
-{
-    match seat {
-        Seat::North => *b"N",
-        Seat::East => *b"E",
-        Seat::South => *b"S",
-        Seat::West => *b"W",
-    }
-}

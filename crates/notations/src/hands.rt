@@ -2,8 +2,8 @@
 //! vulnerability and points.
 //!
 //! A text begins with the given labels, each on a line of its own, and an empty line after
-//! them. Then come the records of the boards, thirteen lines each. Texts are UTF-8, for the signs
-//! of the suits.
+//! them. Then come the records of the boards, of thirteen lines, or more with tricks. Texts are
+//! UTF-8, for the signs of the suits.
 
 ghost use Rattle.std.specs.Prelude.{◌≡◌, ◌<◌, ◌≤◌, ◌+◌, ◌++◌, [], codes, length};
 ghost use Rattle.std.specs.Option.{option_copied};
@@ -11,7 +11,8 @@ ghost use Rattle.cards.specs.declared.seat.Seat.TheVariants.{North, East, South,
 ghost use Rattle.cards.specs.declared.suit.Suit.TheVariants.{Diamonds};
 ghost use Rattle.boards.specs.declared.buffer.TheConstants.{CAPACITY};
 ghost use Rattle.notations.specs.Columns.{columns};
-ghost use Rattle.notations.specs.Names.{seat_name, vulnerable_name};
+ghost use Rattle.notations.specs.Names.{seat_name};
+ghost use Rattle.pbn_text.specs.Games.{vulnerable_text};
 ghost use Rattle.notations.specs.Records.{north_lines, number_line, one_count, record_text};
 ghost use Rattle.notations.specs.Records.{side_line, side_lines, south_lines, suit_line};
 ghost use Rattle.notations.specs.Records.{two_counts};
@@ -256,7 +257,7 @@ fn dealer_line(dealer: Seat) -> &'static [u8]
 
 /// What is before North's diamonds.
 fn vulnerable_line(sides: Vul) -> &'static [u8]
-    ensures value { result.now ≡ codes "Vul " ++ vulnerable_name sides }
+    ensures value { result.now ≡ codes "Vul " ++ vulnerable_text sides }
     ensures plain { columns result.now ≡ length result.now }
     ensures most { length result.now ≤ 12 }
 {

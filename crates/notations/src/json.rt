@@ -8,11 +8,11 @@ ghost use Rattle.boards.specs.declared.buffer.TheConstants.{CAPACITY};
 ghost use Rattle.notations.specs.Json.{json_line, number_member, tricks_members};
 ghost use Rattle.notations.specs.Tricks.{or_nothing};
 
-use crate::dotted::{put_deal, seat_letter};
-use crate::names::vulnerable_name;
+use crate::dotted::put_deal;
 use crate::results::{put_given, put_par};
 use boards::{Board, Show, SuitLetters, TextBuffer, Tricks};
 use cards::MAX_CANDIDATES;
+use pbn_text::{seat_letter, vulnerable_word};
 
 /// Writes the board's line into the empty buffer.
 #[tactic(auto, unfolding(crate::specs::Json::json_line))]
@@ -31,7 +31,7 @@ pub(crate) fn put_line(
     line.put(b",\"dealer\":\"");
     line.put(&seat_letter(board.dealer));
     line.put(b"\",\"vulnerable\":\"");
-    line.put(vulnerable_name(board.vulnerable));
+    line.put(vulnerable_word(board.vulnerable));
     line.put(b"\",\"deal\":\"");
     put_deal(line, letters, show, board);
     line.put(b"\"");

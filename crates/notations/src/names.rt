@@ -1,9 +1,8 @@
-//! The names of seats and of vulnerable sides.
+//! The names of seats.
 
 ghost use Rattle.std.specs.Prelude.{◌≡◌, ◌≤◌, length};
-ghost use Rattle.notations.specs.Names.{seat_name, vulnerable_name};
+ghost use Rattle.notations.specs.Names.{seat_name};
 
-use boards::Vul;
 use cards::Seat;
 
 /// The name of the seat.
@@ -17,18 +16,5 @@ pub(crate) fn seat_name(seat: Seat) -> &'static [u8]
         Seat::East => b"East",
         Seat::South => b"South",
         Seat::West => b"West",
-    }
-}
-
-/// The name of the vulnerable sides.
-pub(crate) fn vulnerable_name(sides: Vul) -> &'static [u8]
-    ensures value { result.now ≡ vulnerable_name sides }
-    ensures most { length result.now ≤ 4 }
-{
-    match sides {
-        Vul::Neither => b"None",
-        Vul::NorthSouth => b"NS",
-        Vul::EastWest => b"EW",
-        Vul::Both => b"All",
     }
 }

@@ -18,18 +18,16 @@ mod parts;
 mod style;
 mod table;
 
-use crate::names::{seat_name, vulnerable_name};
+use crate::names::seat_name;
 use boards::{Board, Show, SuitLetters, TextBuffer, Tricks, Vul};
 use cards::{Hand, Seat};
 pub(crate) use header::{PageLook, put_header};
 pub(crate) use parts::put_suits;
+use pbn_text::vulnerable_word;
 pub(crate) use style::{
     number_style, page_style, put_title_style, sign_style, table_style, vulnerable_style,
 };
 pub(crate) use table::put_tricks;
-
-/// What closes the page.
-pub(crate) const FOOTER: &[u8] = b"</main>\n</body>\n</html>\n";
 
 /// Writes the board's section into the empty buffer.
 #[tactic(auto, unfolding(crate::specs::Pages::board_text))]
@@ -72,7 +70,7 @@ fn put_number(text: &mut TextBuffer, vulnerable: Vul, number: u64)
     ensures most { length text.new ≤ length text.old + 52 }
 {
     text.put(b"<h2 class=\"");
-    text.put(vulnerable_name(vulnerable));
+    text.put(vulnerable_word(vulnerable));
     text.put(b"\">Board ");
     text.put_number(number);
     text.put(b"</h2>\n");
@@ -88,7 +86,7 @@ pub(crate) fn put_facts(text: &mut TextBuffer, dealer: Seat, vulnerable: Vul)
     text.put(b"<p>Dealer ");
     text.put(seat_name(dealer));
     text.put(b"<br>Vul ");
-    text.put(vulnerable_name(vulnerable));
+    text.put(vulnerable_word(vulnerable));
     text.put(b"</p>\n");
 }
 

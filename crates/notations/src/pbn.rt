@@ -9,11 +9,11 @@ ghost use Rattle.notations.specs.Games.{tricks_text};
 ghost use Rattle.notations.specs.Tricks.{or_nothing};
 ghost use Rattle.pbn_text.specs.Games.{board_text, heading_text, label, tag};
 
-use crate::dotted::{put_deal, seat_letter};
-use crate::names::vulnerable_name;
+use crate::dotted::put_deal;
 use crate::results::{five_of, put_given, put_two_columns};
 use boards::{Board, Caption, Captions, Date, Show, SuitLetters, TextBuffer, Tricks};
 use cards::Seat;
+use pbn_text::{seat_letter, vulnerable_word};
 
 /// Writes the board's game into the empty buffer.
 #[tactic(auto, unfolding(crate::specs::Games::game_in))]
@@ -81,7 +81,7 @@ fn put_board(text: &mut TextBuffer, board: &Board)
     text.put_number(board.number);
     text.put(b"\"]\n");
     put_tag(text, b"Dealer", &seat_letter(board.dealer));
-    put_tag(text, b"Vulnerable", vulnerable_name(board.vulnerable));
+    put_tag(text, b"Vulnerable", vulnerable_word(board.vulnerable));
 }
 
 /// Appends the line of the tag.

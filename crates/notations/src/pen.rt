@@ -8,6 +8,7 @@ ghost use Rattle.notations.specs.Tricks.{or_nothing};
 ghost use Rattle.notations.specs.internal.Pens.{IsPlain, IsUnder, Writes, format_of, text_of};
 
 use crate::{hands, json, lin, numbers, page, pbn, sheet, slips};
+use boards::html::HTML_END;
 use boards::{Board, Captions, Format, Show, SuitLetters, TextBuffer, Tricks};
 use pbn_text::Printer;
 use std::alloc::{AllocError, Global};
@@ -92,12 +93,12 @@ impl Pen {
     }
 
     /// Returns what comes after the boards.
-    #[tactic(auto, unfolding(crate::specs::Pages::footer_text))]
+    #[tactic(auto, unfolding(boards::specs::Html::html_end))]
     pub(crate) fn footer(&self) -> &'static [u8]
         ensures { result.now ≡ footer_of (format_of self.now) }
     {
         match self.format() {
-            Format::Html | Format::Sheet | Format::Slips => page::FOOTER,
+            Format::Html | Format::Sheet | Format::Slips => HTML_END,
             Format::Pbn | Format::Hands | Format::Lin | Format::Json | Format::Numbers => b"",
         }
     }

@@ -123,9 +123,9 @@ impl AnyPrinter {
     }
 
     /// Returns a printer in the format and under those captions that the format can write, which
-    /// shows these hands and has printed nothing. It writes the board of number `first + i` with
-    /// line i of the tricks, which are written only beside all hands. Of a board without a line it
-    /// writes nothing, and no footer after more boards than there are lines.
+    /// shows these hands and has printed nothing. It writes board `first + i` with `table[i]`, but
+    /// tricks only if all hands are shown. A board without an entry is left out, and so is the
+    /// footer after more boards than there are entries.
     ///
     /// # Errors
     /// `AllocError` if the allocation of its memory failed.

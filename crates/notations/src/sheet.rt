@@ -11,10 +11,11 @@ ghost use Rattle.notations.specs.Tricks.{or_nothing};
 
 mod style;
 
-use crate::names::{seat_name, vulnerable_name};
+use crate::names::seat_name;
 use crate::page::{put_facts, put_suits, put_tricks};
 use boards::{Board, Show, SuitLetters, TextBuffer, Tricks};
 use cards::{Hand, Seat};
+use pbn_text::vulnerable_word;
 pub(crate) use style::put_sheet_style;
 
 /// Writes the board's section into the empty buffer.
@@ -87,7 +88,7 @@ fn put_middle(text: &mut TextBuffer, show: Show, board: &Board)
     ensures most { length text.new ≤ length text.old + 330 }
 {
     text.put(b"<div class=\"middle ");
-    text.put(vulnerable_name(board.vulnerable));
+    text.put(vulnerable_word(board.vulnerable));
     text.put(b"\">");
     put_all_points(text, show, board);
     text.put(b"</div>\n");

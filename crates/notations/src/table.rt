@@ -7,8 +7,8 @@ ghost use Rattle.notations.specs.Formats.{line_for};
 use boards::Tricks;
 use std::marker::Model;
 
-/// What is known of the tricks of boards that follow one another: that of the first, whose number
-/// this is, and so on.
+/// What is known of the tricks of consecutive boards: `lines[0]` is for the board numbered `first`,
+/// and so on.
 #[derive(Drop)]
 pub(crate) struct Table {
     pub(crate) first: u64,

@@ -4,7 +4,7 @@ use Rattle.cards.specs.declared.seat.Seat.{Seat}
 use Rattle.cards.specs.declared.seat.Seat.TheVariants.{North, East, South, West}
 use Rattle.cards.specs.Pack.{seat_number}
 use Rattle.boards.specs.declared.setting.Vul.{Vul}
-use Rattle.boards.specs.declared.setting.Vul.TheVariants.{Neither, NorthSouth, EastWest, Both}
+use Rattle.boards.specs.declared.setting.Vul.TheVariants.{Neither}
 use Rattle.pbn_text.specs.declared.lines.TheConstants.{DEALER_AND_VULNERABLE, LENGTHS}
 use Rattle.pbn_text.specs.internal.Lines.{board_lines, vulnerability_number}
 

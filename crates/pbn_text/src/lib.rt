@@ -14,8 +14,10 @@ pub mod laws;
 mod lines;
 mod printer;
 mod reference;
+mod words;
 
 pub use boards::{Date, Heading, Label, MAX_LABEL_LEN, Vul, dealer, vulnerable};
 pub use lines::HEADER;
 pub use printer::Printer;
 pub use reference::{Reference, deal_text, game};
+pub use words::{seat_letter, vulnerable_word};

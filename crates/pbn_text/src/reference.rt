@@ -10,14 +10,15 @@ ghost use Rattle.cards.specs.Deals.{IsPartition};
 ghost use Rattle.cards.specs.Hands.{hand_of, length_of};
 ghost use Rattle.cards.specs.declared.suit.Suit.TheVariants.{Spades, Hearts, Diamonds, Clubs};
 ghost use Rattle.pbn_text.specs.Games.{game as game_of, game_text, no_heading, board_text, pbn};
-ghost use Rattle.pbn_text.specs.Games.{dealer_text, vulnerable_text, hand_text, suit_text};
+ghost use Rattle.pbn_text.specs.Games.{hand_text, suit_text};
 ghost use Rattle.pbn_text.specs.Games.{deal_text as text_of_deal};
 ghost use Rattle.pbn_text.specs.internal.Lines.{deal_line};
 
 use crate::Heading;
 use crate::lines::{HEADER, Text, put, put_heading, put_line};
+use crate::words::{seat_letter, vulnerable_word};
 use arrayvec::ArrayVec;
-use boards::{Board, Notation, Vul};
+use boards::{Board, Notation};
 use cards::{Deal, Hand, Seat, Suit};
 use itoa::Buffer;
 use sinks::{Sink, SinkFault, put_all};
@@ -140,32 +141,8 @@ fn put_board(text: &mut Text, board: &Board)
 {
     let mut buffer = Buffer::new();
     put_line(text, b"[Board \"", buffer.format(board.number).as_bytes());
-    put_line(text, b"[Dealer \"", dealer_letter(board.dealer));
+    put_line(text, b"[Dealer \"", &seat_letter(board.dealer));
     put_line(text, b"[Vulnerable \"", vulnerable_word(board.vulnerable));
-}
-
-fn dealer_letter(seat: Seat) -> &'static [u8]
-    ensures value { result.now ≡ dealer_text seat }
-    ensures len { length result.now ≡ 1 }
-{
-    match seat {
-        Seat::North => b"N",
-        Seat::East => b"E",
-        Seat::South => b"S",
-        Seat::West => b"W",
-    }
-}
-
-fn vulnerable_word(sides: Vul) -> &'static [u8]
-    ensures value { result.now ≡ vulnerable_text sides }
-    ensures max { length result.now ≤ 4 }
-{
-    match sides {
-        Vul::Neither => b"None",
-        Vul::NorthSouth => b"NS",
-        Vul::EastWest => b"EW",
-        Vul::Both => b"All",
-    }
 }
 
 /// Appends the line of the deal and the empty line.

@@ -62,8 +62,8 @@ pub enum Request<'a> {
         tricks: bool,
         hints: When,
     },
-    /// The boards of the games that the input has. Of the look the format, the hands that are
-    /// written and the labels count.
+    /// The boards of the games that the input has. Only the look's format, hands that are written
+    /// and labels are used.
     Show {
         look: Look<'a>,
         hints: When,
@@ -78,8 +78,8 @@ pub enum Request<'a> {
 }
 
 impl<'a> Request<'a> {
-    /// Returns the search and the look of the request, if it has a look: the search tries no
-    /// candidates where none is asked for.
+    /// Returns the search and the look of a request that deals or shows boards. The search of a
+    /// `pick` or a `show` tries no candidates; the look of a `find` or a `count` is plain.
     pub fn plans(&self) -> Option<(Search<'a>, Look<'a>)> {
         match self {
             Request::Make { search, look, .. } => Some((*search, *look)),

@@ -23,8 +23,8 @@ pub struct Search<'a> {
     pub first: u64,
     /// How many workers judge them.
     pub workers: Workers,
-    /// How many verdicts a worker's lane holds: 64 if it isn't given, and 4,096 if the machine says
-    /// how many workers there are.
+    /// How many verdicts a worker's lane holds. If it isn't given: 64, or 4,096 if `workers` is
+    /// `Auto`.
     pub lane: Option<u32>,
     /// The text of the lesson's condition.
     pub lesson: Option<&'a str>,

@@ -2,6 +2,7 @@
 use Rattle.std.specs.Prelude.{ℕ, ◌*◌, ◌==◌, ◌&&◌, ◌^◌, Bool, List, [], ◌++◌, codes, length, map}
 use Rattle.std.specs.Prelude.{fold, if◌then◌else◌, max, nat_le, take}
 use Rattle.std.specs.List.{enumerate_from, flat_map, list_all}
+use Rattle.boards.specs.Html.{html_end}
 use Rattle.boards.specs.Layouts.{Layout}
 use Rattle.cards.specs.declared.seat.Seat.{Seat}
 use Rattle.conditions.specs.Questions.{Question, answer, is_condition, rows_of}
@@ -11,7 +12,7 @@ use Rattle.statistics.specs.Answers.{answers_of}
 use Rattle.statistics.specs.Csv.{csv_counts, csv_numbered, csv_one, csv_total, csv_two}
 use Rattle.statistics.specs.Json.{json_object, json_one, json_two}
 use Rattle.statistics.specs.OneQuestion.{one_table}
-use Rattle.statistics.specs.Page.{page_foot, page_head, page_heading, page_one, page_two}
+use Rattle.statistics.specs.Page.{page_head, page_heading, page_one, page_two}
 use Rattle.statistics.specs.Sentence.{sentence}
 use Rattle.statistics.specs.TwoQuestions.{Kinds, Pairs, two_table}
 
@@ -114,7 +115,7 @@ unfoldable pub page_text : Subject → List (List Seat) → ℕ → List ℕ
 page_text subject deals candidates =
     page_head (page_title subject) (sentence (length deals) candidates)
     ++ (if length deals == 0 then [] else page_table subject deals)
-    ++ page_foot
+    ++ html_end
 
 -- the questions of the object
 unfoldable pub json_questions : Subject → List (List Seat) → List ℕ

@@ -2,6 +2,7 @@
 use Rattle.std.specs.Prelude.{ℕ, ◌*◌, ◌==◌, Bool, List, [], ◌∷◌, ◌++◌, codes, fold, if◌then◌else◌}
 use Rattle.std.specs.Prelude.{length, map, max, sum}
 use Rattle.std.specs.List.{flat_map}
+use Rattle.boards.specs.Html.{body_start, escaped, html_start}
 use Rattle.statistics.specs.Answers.{count_of, most_in, rows, squares}
 use Rattle.statistics.specs.Columns.{commas, label, or_dash}
 use Rattle.statistics.specs.OneQuestion.{mean_text}
@@ -10,32 +11,10 @@ use Rattle.statistics.specs.Rounded.{fraction}
 use Rattle.statistics.specs.TwoQuestions.{Kinds, Pairs, cell, columns, in_column, mean_or_dash}
 use Rattle.statistics.specs.TwoQuestions.{of_rows}
 
--- &, < and > as HTML has them in a text
-unfoldable pub escaped_byte : ℕ → List ℕ
-escaped_byte byte =
-    if byte == 0x26 then codes "&amp;"
-    else if byte == 0x3C then codes "&lt;"
-    else if byte == 0x3E then codes "&gt;"
-    else byte ∷ []
-
-abbrev pub escaped : List ℕ → List ℕ
-escaped text = flat_map escaped_byte text
-
--- up to the title
-unfoldable pub opening : List ℕ
-opening =
-    codes "<!DOCTYPE html>\n<html lang=\"en\">\n<head>\n<meta charset=\"utf-8\">\n"
-    ++ codes "<meta name=\"viewport\" content=\"width=device-width, initial-scale=1\">\n<title>"
-
 -- the title, the style, the title again as the heading, and the sentence
 unfoldable pub page_head : List ℕ → List ℕ → List ℕ
 page_head title sentence =
-    opening ++ escaped title ++ codes "</title>\n<style>\n" ++ style
-    ++ codes "</style>\n</head>\n<body>\n<main>\n<h1>" ++ escaped title ++ codes "</h1>\n<p>"
-    ++ sentence ++ codes "</p>\n"
-
-unfoldable pub page_foot : List ℕ
-page_foot = codes "</main>\n</body>\n</html>\n"
+    html_start title ++ style ++ body_start title ++ codes "<p>" ++ sentence ++ codes "</p>\n"
 
 -- ---- one question
 

@@ -32,7 +32,7 @@ impl Drop for Counter {
 }
 
 impl Counter {
-    /// Returns a counter that has counted nothing, and tells of the subject in this style.
+    /// Returns a counter of a subject that isn't too large, in this style. It has counted nothing.
     ///
     /// # Errors
     /// `AllocError` if the allocation of a number for each row or cell failed.

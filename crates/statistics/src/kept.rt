@@ -18,12 +18,13 @@ use crate::deals::Deals;
 use crate::each::Each;
 use crate::line_style::LineStyle;
 use crate::one::One;
-use crate::page::{PAGE_FOOT, put_page_head};
+use crate::page::put_page_head;
 use crate::pieces::put_piece;
 use crate::sentence::put_sentence;
 use crate::subject::Subject;
 use crate::two::Two;
 use boards::TextBuffer;
+use boards::html::HTML_END;
 use cards::Deal;
 use sinks::{Sink, SinkFault, put_all};
 use std::alloc::{AllocError, Global};
@@ -120,7 +121,7 @@ impl Kept {
     {
         put_piece(sink, &self.page_head(tried))?;
         self.put_page_part(tried, sink)?;
-        put_all(sink, PAGE_FOOT)
+        put_all(sink, HTML_END)
     }
 
     /// Writes the table of the page, if there is a deal.

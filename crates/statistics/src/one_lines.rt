@@ -45,7 +45,7 @@ pub(crate) fn put_header(text: &mut TextBuffer, first: usize, second: usize)
     text.put(b"\n");
 }
 
-/// Appends the shown.
+/// Appends the row.
 pub(crate) fn put_row(text: &mut TextBuffer, shown: &Row)
     requires first { shown.now.first ≤ 100 }
     requires second { shown.now.second ≤ 100 }

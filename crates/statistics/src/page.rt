@@ -11,8 +11,5 @@ pub(crate) use cells::{
     COLUMNS_HEAD, COLUMNS_TAIL, TOTALS_HEAD, TOTALS_TAIL, put_column_head, put_line_head,
     put_line_tail, put_plain, put_shaded,
 };
-pub(crate) use header::{put_escaped, put_page_head};
+pub(crate) use header::put_page_head;
 pub(crate) use rows::{put_page_header, put_page_mean, put_page_row};
-
-/// What closes the page.
-pub(crate) const PAGE_FOOT: &[u8] = b"</main>\n</body>\n</html>\n";

@@ -80,8 +80,8 @@ pub enum Subject {
 pub const MAX_CELLS: u64 = 1_048_576;
 
 impl Subject {
-    /// Whether a table of the answers can have more than `MAX_CELLS` cells: of one question as many
-    /// as it has rows; of several tables, whether one of them can.
+    /// Whether a table of the answers can have more than `MAX_CELLS` cells, or rows if it is of one
+    /// question; with several tables, whether one of them can.
     pub fn is_too_large(&self) -> bool
         ensures { result ≡ nat_lt MAX_CELLS (cells_of (subject_of self.now)) }
     {

@@ -34,7 +34,7 @@ fn sends(sender: &mut LaneIn, number: u64) -> bool
     sender.try_send(verdict(number)).is_ok()
 }
 
-/// Whether the verdict on this candidate comes back, for want of room.
+/// Whether the verdict on this candidate comes back, since there is no room.
 fn sends_back(sender: &mut LaneIn, number: u64) -> bool
     ensures { sender.new.ring ≡ sender.old.ring }
 {

@@ -178,9 +178,9 @@ impl NumberPicker {
 /// candidate in order, and the footer, in a notation that has printed nothing. Returns how many
 /// boards were written.
 ///
-/// Of the plan its seed, its fixed cards, its first board and its setting count: none of its own
-/// candidates is tried. The input is read by pieces, in constant memory, and a board is written as
-/// soon as its line was read; before each read the sink hears how many there are.
+/// Only the plan's seed, fixed cards, first board and setting are used: its own candidates aren't
+/// tried. The input is read in pieces, in constant memory, and a board is written as soon as its
+/// line was read; before each read the sink is told how many boards there are.
 ///
 /// # Errors
 ///

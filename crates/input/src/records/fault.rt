@@ -9,7 +9,7 @@ pub enum RecordFault {
     NotANumber,
     /// The Dealer tag isn't `N`, `E`, `S`, `W` or `?`.
     NotADealer,
-    /// The Vulnerable tag doesn't say who is vulnerable.
+    /// The Vulnerable tag isn't `None`, `Love`, `-`, `NS`, `EW`, `All`, `Both` (any case) or `?`.
     NotAVulnerability,
     /// What begins with `[` isn't a tag.
     NotATag,

@@ -51,7 +51,7 @@ pub(crate) fn refused(lines: u64, fault: LineFault) -> PickFault
     })
 }
 
-/// Returns what was read of a line tells of the deal.
+/// Returns what a line says of the deal's tricks, by how it ended.
 fn judged(end: LineEnd, line: &[u8], deal: &Deal) -> Result<Tricks, LineFault>
     ensures { result ≡ judged end deal.now line.now }
 {

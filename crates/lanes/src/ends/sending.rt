@@ -30,8 +30,8 @@ impl LaneIn {
         Ok(())
     }
 
-    /// Whether the lane has a free slot. It looks at the other end only if none is known. It waits
-    /// for nobody.
+    /// Whether the lane has a free slot. It looks at the other end only if none is known. Never
+    /// blocks.
     pub fn has_room(&mut self) -> bool
         ensures ring { self.new.ring ≡ self.old.ring }
         ensures sent { self.new.sent ≡ self.old.sent }
@@ -136,8 +136,8 @@ impl LaneIn {
         self.ahead
     }
 
-    /// Closes the lane, and returns what tells all that was sent. It returns `None` if the other
-    /// end was let go before, since the ring then can't say how it ended. Never blocks.
+    /// Closes the lane, and returns a record of all that was sent. Returns `None` if the other end
+    /// was dropped before, since the ring then can't say how it ended. Never blocks.
     pub fn close(self) -> Option<Closed>
         ensures sent { IfSome result (λ c. (c.sent ≡ self.sent) × (c.ring ≡ self.ring)) }
         ensures whole { IfSome result (λ c. c.is_short ≡ false) }

@@ -7,10 +7,10 @@ ghost use Rattle.notations.specs.Records.{cell_text, declarer_line, head_line, t
 ghost use Rattle.notations.specs.Records.{tricks_lines};
 ghost use Rattle.notations.specs.Tricks.{or_nothing};
 
-use crate::dotted::seat_letter;
 use crate::results::{five_of, put_par, put_two_columns};
 use boards::{TextBuffer, Tricks};
 use cards::Seat;
+use pbn_text::seat_letter;
 
 /// Appends what is known of the tricks.
 #[tactic(auto, unfolding(crate::specs::Records::table_lines))]

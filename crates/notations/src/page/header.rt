@@ -2,15 +2,15 @@
 
 ghost use Rattle.std.specs.Prelude.{◌≡◌, ◌≤◌, ◌+◌, ◌++◌, [], ℕ, Some, length};
 ghost use Rattle.boards.specs.declared.buffer.TheConstants.{CAPACITY};
-ghost use Rattle.boards.specs.Room.{room, room_of};
-ghost use Rattle.notations.specs.Pages.{escaped, escaped_byte, header_text, is_blank, joined};
-ghost use Rattle.notations.specs.Pages.{opening, shown, title_of};
+ghost use Rattle.boards.specs.Room.{room};
+ghost use Rattle.notations.specs.Pages.{header_text, is_blank, joined, shown, title_of};
 ghost use Rattle.notations.specs.internal.Looks.{style_of};
 ghost use Rattle.notations.specs.internal.Titles.{AddsAtMost, IsWithin};
 
 use crate::page::style::{put_style, put_style_with_tricks};
 use crate::sheet::put_sheet_style;
 use crate::slips::put_slip_style;
+use boards::html::{put_body_start, put_html_start};
 use boards::{Caption, Captions, Date, TextBuffer};
 
 /// How a page looks.
@@ -33,14 +33,9 @@ pub(crate) fn put_header(text: &mut TextBuffer, look: PageLook, heading: &Captio
 {
     let mut title = TextBuffer::new();
     put_title(&mut title, heading);
-    put_opening(text);
-    text.put(b"<title>");
-    put_escaped(text, title.as_bytes());
-    text.put(b"</title>\n<style>\n");
+    put_html_start(text, title.as_bytes());
     put_look(text, look, title.as_bytes());
-    text.put(b"</style>\n</head>\n<body>\n<main>\n<h1>");
-    put_escaped(text, title.as_bytes());
-    text.put(b"</h1>\n");
+    put_body_start(text, title.as_bytes());
 }
 
 /// Appends the style of a page that looks so and has this title.
@@ -55,17 +50,6 @@ fn put_look(text: &mut TextBuffer, look: PageLook, title: &[u8])
         PageLook::Sheet => put_sheet_style(text, title),
         PageLook::Slips => put_slip_style(text, title),
     }
-}
-
-/// Writes what comes before the title into the empty buffer.
-#[tactic(auto, unfolding(crate::specs::Pages::opening))]
-fn put_opening(text: &mut TextBuffer)
-    requires { text.old ≡ [] }
-    ensures text { text.new ≡ opening }
-    ensures most { length text.new ≤ 134 }
-{
-    text.put(b"<!DOCTYPE html>\n<html lang=\"en\">\n<head>\n<meta charset=\"utf-8\">\n");
-    text.put(b"<meta name=\"viewport\" content=\"width=device-width, initial-scale=1\">\n");
 }
 
 /// Writes the title into the empty buffer: event, site and date.
@@ -124,30 +108,4 @@ fn is_blank(text: &[u8]) -> bool
     ensures { result ≡ is_blank text.now }
 {
     text.iter().all(|byte| *byte == b' ')
-}
-
-/// Appends the text with &, < and > as HTML has them.
-fn put_escaped(text: &mut TextBuffer, label: &[u8])
-    requires { length text.old + room 5 label.now ≤ CAPACITY }
-    ensures text { text.new ≡ text.old ++ escaped label.now }
-    ensures most { length text.new ≤ length text.old + room 5 label.now }
-{
-    for byte in label {
-        put_byte(text, *byte);
-    }
-}
-
-/// Appends a byte of a text.
-#[tactic(auto, unfolding(crate::specs::Pages::escaped_byte))]
-fn put_byte(text: &mut TextBuffer, byte: u8)
-    requires { length text.old + room_of 5 byte ≤ CAPACITY }
-    ensures text { text.new ≡ text.old ++ escaped_byte byte }
-    ensures most { length text.new ≤ length text.old + room_of 5 byte }
-{
-    match byte {
-        b'&' => text.put(b"&amp;"),
-        b'<' => text.put(b"&lt;"),
-        b'>' => text.put(b"&gt;"),
-        _ => text.put(&[byte]),
-    }
 }

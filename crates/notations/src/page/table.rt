@@ -8,11 +8,11 @@ ghost use Rattle.notations.specs.Pages.{table_head, table_text, tricks_text};
 ghost use Rattle.pbn_text.specs.Games.{dealer_text};
 ghost use Rattle.notations.specs.Tricks.{or_nothing};
 
-use crate::dotted::seat_letter;
 use crate::page::par::put_par;
 use crate::results::{five_of, number_of};
 use boards::{TextBuffer, Tricks};
 use cards::Seat;
+use pbn_text::seat_letter;
 
 /// Appends what is known of the tricks.
 #[tactic(auto, unfolding(crate::specs::Pages::table_text))]

@@ -12,8 +12,8 @@ ghost use Rattle.statistics.specs.internal.Texts.{numbers_in, rows_of_one};
 use crate::csv_lines::put_numbered_row;
 use crate::line_style::LineStyle;
 use crate::one::One;
-use crate::page::put_escaped;
 use crate::pieces::put_piece;
+use boards::html::put_escaped;
 use boards::{TableStyle, TextBuffer};
 use sinks::{Sink, SinkFault};
 

@@ -6,13 +6,10 @@ pub returns : goal.returns
 unfolding page_head
 returns c =
     rw (
-      c.put-4.ensures.text,
-      c.put_sentence.ensures.text,
-      c.put-3.ensures.text,
-      c.put_escaped-2.ensures.text,
       c.put-2.ensures.text,
-      c.put_style.ensures.text,
+      c.put_sentence.ensures.text,
       c.put.ensures.text,
-      c.put_escaped.ensures.text,
-      c.put_opening.ensures.text,
+      c.put_body_start.ensures.text,
+      c.put_style.ensures.text,
+      c.put_html_start.ensures.text,
     ) (simp append_assoc)
