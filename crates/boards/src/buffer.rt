@@ -102,8 +102,8 @@ impl TextBuffer {
     }
 }
 
-/// The ranks of a suit, the ace first.
-const LETTERS: [u8; 13] = *b"AKQJT98765432";
+/// The letters of the ranks, the ace first.
+pub const RANK_LETTERS: [u8; 13] = *b"AKQJT98765432";
 
 /// How many sets of thirteen ranks there are.
 const SETS: usize = 8192;
@@ -189,8 +189,8 @@ fn entry_of(set: usize) -> Entry
 {
     let mut entry = [0; 16];
     let mut end = 0;
-    for rank in 0..LETTERS.len() {
-        entry[end] = LETTERS[rank];
+    for rank in 0..RANK_LETTERS.len() {
+        entry[end] = RANK_LETTERS[rank];
         end += (set >> rank) & 1;
     }
     entry[end] = b'.';

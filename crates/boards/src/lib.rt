@@ -34,7 +34,7 @@ mod style;
 mod tricks;
 
 pub use board::Board;
-pub use buffer::{CAPACITY, SuitLetters, TextBuffer};
+pub use buffer::{CAPACITY, RANK_LETTERS, SuitLetters, TextBuffer};
 pub use caption::{Caption, MAX_CAPTION_BYTES, MAX_CAPTION_CHARS};
 pub use captions::Captions;
 pub use cause::Cause;

@@ -51,10 +51,7 @@ pub(crate) struct Assignment<R, G> {
 /// How the ends of a run's lanes wait for each other, on the cores that it may use. If these can't
 /// be told, as on one.
 fn pace_of<R: Threads>(rt: &R, plan: &Plan) -> Pace {
-    let cores = match thread::available_parallelism(rt) {
-        Ok(cores) => cores.get(),
-        Err(_) => 1,
-    };
+    let cores = thread::available_parallelism(rt).map_or(1, |cores| cores.get());
     Pace::of(plan.workers(), cores)
 }
 

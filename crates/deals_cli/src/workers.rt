@@ -24,10 +24,7 @@ pub(crate) fn worked<R: Threads>(rt: &R, plan: &Plan, asked: Workers) -> Plan
     match asked {
         Workers::Number(_) => *plan,
         Workers::Auto => {
-            let cores = match thread::available_parallelism(rt) {
-                Ok(cores) => cores.get(),
-                Err(_) => 1,
-            };
+            let cores = thread::available_parallelism(rt).map_or(1, |cores| cores.get());
             plan.with_workers(workers_for(cores))
         }
     }

@@ -1,6 +1,6 @@
 //! Words that were not read: when hints are said of them, and what helps if one isn't UTF-8.
 
-use requests::When;
+use requests::{TIMES, When};
 use sinks::put_shown;
 use std::alloc::Global;
 
@@ -24,12 +24,8 @@ pub fn hints_among(words: &[String]) -> When {
 }
 
 fn when_of(word: &str) -> Option<When> {
-    match word {
-        "auto" => Some(When::Auto),
-        "always" => Some(When::Always),
-        "never" => Some(When::Never),
-        _ => None,
-    }
+    let (_, when) = TIMES.iter().find(|(named, _)| *named == word)?;
+    Some(*when)
 }
 
 /// Returns what helps with a word of which only the first `len` bytes are UTF-8: a line that says

@@ -18,14 +18,11 @@ use crate::Heading;
 use crate::lines::{HEADER, Text, put, put_heading, put_line};
 use crate::words::{seat_letter, vulnerable_word};
 use arrayvec::ArrayVec;
-use boards::{Board, Notation};
+use boards::{Board, Notation, RANK_LETTERS};
 use cards::{Deal, Hand, Seat, Suit};
 use itoa::Buffer;
 use sinks::{Sink, SinkFault, put_all};
 use std::marker::Model;
-
-/// The ranks of a suit, the ace first.
-const LETTERS: [u8; 13] = *b"AKQJT98765432";
 
 /// How many bytes a hand is written into: its cards, its dots, and the letters that are written
 /// over.
@@ -217,7 +214,7 @@ fn write_suit(buffer: &mut [u8; HAND_BUFFER_LEN], start: usize, hand: &Hand, sui
     let ranks = hand.ranks(suit);
     let mut end = start;
     for rank in 0..ranks.len() {
-        buffer[end] = LETTERS[rank];
+        buffer[end] = RANK_LETTERS[rank];
         end += usize::from(ranks[rank]);
     }
     end

@@ -7,8 +7,7 @@ ghost use Rattle.requests.specs.PredealtHands.{has_three_dots, is_hand, is_hand_
 ghost use Rattle.requests.specs.PredealtHands.{is_rank_letter};
 ghost use Rattle.requests.specs.PredealtHands.{suits_of, times_in};
 
-/// The letters of the ranks, the ace first.
-const LETTERS: [u8; 13] = *b"AKQJT98765432";
+use boards::RANK_LETTERS;
 
 /// The part of the suit of this number.
 fn suit_text(text: &[u8], suit: usize) -> &[u8]
@@ -23,7 +22,7 @@ pub fn times_in(text: &[u8], card: usize) -> usize
     requires { card < 52 }
     ensures { result ≡ times_in text.now card }
 {
-    let letter = LETTERS[card % 13];
+    let letter = RANK_LETTERS[card % 13];
     suit_text(text, card / 13)
         .iter()
         .filter(|byte| **byte == letter)
@@ -41,7 +40,7 @@ pub fn has_card(text: &[u8], card: usize) -> bool
 pub fn is_rank_letter(byte: u8) -> bool
     ensures { result ≡ is_rank_letter byte }
 {
-    LETTERS.contains(&byte)
+    RANK_LETTERS.contains(&byte)
 }
 
 /// Whether it is a dot or the letter of a rank.

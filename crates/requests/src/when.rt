@@ -9,3 +9,13 @@ pub enum When {
     Always,
     Never,
 }
+
+/// The words for these, each with what it means.
+pub const TIMES: &[(&str, When)] = &[
+    ("auto", When::Auto),
+    ("always", When::Always),
+    ("never", When::Never),
+];
+
+/// These words, as help lists them.
+pub const TIME_WORDS: &str = "auto, always, never";

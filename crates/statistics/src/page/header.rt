@@ -1,7 +1,7 @@
 //! What comes before the table: the title, the style, and the sentence.
 
 ghost use Rattle.std.specs.Prelude.{◌≡◌, ◌≤◌, ◌+◌, ◌*◌, ◌^◌, ◌++◌, [], length};
-ghost use Rattle.boards.specs.declared.buffer.TheConstants.{CAPACITY};
+ghost use Rattle.boards.specs.Room.{room};
 ghost use Rattle.statistics.specs.Page.{page_head};
 ghost use Rattle.statistics.specs.Sentence.{sentence};
 
@@ -13,7 +13,7 @@ use boards::html::{put_body_start, put_html_start};
 /// Writes what comes before the table into the empty buffer.
 pub(crate) fn put_page_head(text: &mut TextBuffer, title: &[u8], deals: u64, candidates: u64)
     requires empty { text.old ≡ [] }
-    requires title { length title.now ≤ 148 }
+    requires title { room 5 title.now ≤ 740 }
     requires deals { deals ≤ 2 ^ 40 }
     ensures { text.new ≡ page_head title.now (sentence deals candidates) }
 {

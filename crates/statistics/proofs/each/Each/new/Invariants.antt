@@ -1,6 +1,5 @@
 -- Of the questions so far nothing is counted yet.
-use Rattle.std.proofs.Common.{◌≡◌, ◌≤◌, ◌++◌, [], All, map}
-use Rattle.statistics.specs.Counting.{TitledQuestion, most_rows}
+use Rattle.std.proofs.Common.{◌≡◌, [], All, map}
 use Rattle.statistics.specs.internal.Kept.{CountsOne}
 use Rattle.statistics.proofs.each.Each.new.Given as goal
 

@@ -1,4 +1,4 @@
-use Rattle.std.proofs.Common.{arith, rules, ℕ, Bool, false, List, ap, ap₂, subst, ◌∙◌, ◌||◌}
+use Rattle.std.proofs.Common.{arith, rules, ℕ, false, List, ap, ap₂, subst, ◌∙◌, ◌||◌}
 use Rattle.std.proofs.lemmas.Result.{MatchResult-from_err}
 use Rattle.sinks.specs.Appended.{AppendsAll, AppendsPart}
 use Rattle.statistics.specs.Json.{json_value}

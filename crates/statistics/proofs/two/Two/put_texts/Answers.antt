@@ -1,4 +1,4 @@
-use Rattle.std.proofs.Common.{◌++◌, List, ℕ, ap, codes, subst}
+use Rattle.std.proofs.Common.{◌++◌, List, ℕ, codes, subst}
 use Rattle.std.proofs.lemmas.Result.{MatchResult-from_err}
 use Rattle.sinks.specs.Appended.{AppendsAll, AppendsPart}
 use Rattle.sinks.specs.Sinks.{AppendsOrBreaksOff}
