@@ -12,6 +12,7 @@ import os
 import random
 import subprocess
 
+import board_formats
 import harness
 import language
 import model
@@ -41,13 +42,11 @@ SEEN = [
 SEARCH = ["--seed", "7", "--candidates", "300", "--first", "11"]
 # What is asked of each, with what the search is to have found.
 ASKED = [
-    ["make", "--format", "pbn", "--report"],
+    *(["make", "--format", format] for format in board_formats.FORMATS),
+    ["make", "--report"],
     ["make", "--format", "hands", "--boards", "5", "--report", "--event", "Club"],
-    ["make", "--format", "lin"],
     ["make", "--format", "json", "--first-board", "9", "--report"],
     ["make", "--format", "html", "--rotate"],
-    ["make", "--format", "sheet"],
-    ["make", "--format", "slips"],
     ["make", "--tricks", "--report"],
     ["find", "--report"],
     ["find", "--boards", "3", "--report", "--workers", "3"],

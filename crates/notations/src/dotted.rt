@@ -26,7 +26,7 @@ pub(crate) fn put_deal(text: &mut TextBuffer, letters: &SuitLetters, show: Show,
 }
 
 /// Appends the hand, or a dash if it isn't shown.
-fn put_hand(text: &mut TextBuffer, letters: &SuitLetters, hand: &Option<Hand>)
+pub(crate) fn put_hand(text: &mut TextBuffer, letters: &SuitLetters, hand: &Option<Hand>)
     requires { length text.old + 60 ≤ CAPACITY }
     ensures text { text.new ≡ text.old ++ hand_value hand.now }
     ensures most { length text.new ≤ length text.old + 55 }

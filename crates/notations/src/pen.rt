@@ -99,7 +99,7 @@ impl Pen {
     {
         match self.format() {
             Format::Html | Format::Sheet | Format::Slips => HTML_END,
-            Format::Pbn | Format::Hands | Format::Lin | Format::Json | Format::Numbers => b"",
+            _ => b"",
         }
     }
 }

@@ -257,7 +257,7 @@ fn put_header(text: &mut TextBuffer, format: Format, heading: &Captions)
         Format::Html => page::put_header(text, PageLook::Plain, heading),
         Format::Sheet => page::put_header(text, PageLook::Sheet, heading),
         Format::Slips => page::put_header(text, PageLook::Slips, heading),
-        Format::Lin | Format::Json | Format::Numbers => {}
+        _ => {}
     }
 }
 

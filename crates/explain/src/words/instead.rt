@@ -23,8 +23,8 @@ const ROWS: &str = "
         --boards 36 says how many boards, --candidates 1000 how many deals are tried
     option --average --mean --frequency --stats --statistics => \
         deals count tells how often each number comes, and the mean: --of 'hcp(north)'
-    option|word --pbn --html --lin --json --hands --pdf --type pbn hands lin html json pdf => \
-        boards are PBN, or what --format says: --format %formats
+    option|word --pbn --html --lin --json --hands --sheet --slips --pdf --type pbn hands lin html \
+        sheet slips json pdf => boards are PBN, or what --format says: --format %formats
     option --title --name --tournament => write --event 'Club night' for the name of the event
     option --place --location --club => write --site 'Bridge club' for the club or the place
     option --threads --jobs --cores --parallel -j -t => write --workers 3 for three threads
