@@ -11,10 +11,8 @@ import os
 import pty
 import random
 import re
-import signal
 import subprocess
 import tempfile
-import time
 
 import harness
 from board_formats import FORMATS, TABLE
@@ -46,18 +44,21 @@ def read_all(descriptor):
 
 
 def stopped(words, into, seconds):
-    """What is on the output of a run that is stopped after this many seconds, and what it drew on the terminal."""
+    """What is on the output of a run that is stopped after this many seconds, and what it drew on the terminal.
+
+    `timeout` stops it, and not this process: it may be busy with the text of another run, and while it is, this one
+    would go on, and its text would be the larger.
+    """
     terminal, drawn_on = pty.openpty()
     with tempfile.TemporaryFile() as file, concurrent.futures.ThreadPoolExecutor(1) as readers:
         cat = subprocess.Popen(["cat"], stdin=subprocess.PIPE, stdout=file) if into == "pipe" else None
         output = cat.stdin if cat else file
+        stop = ["timeout", "--foreground", "--signal=INT", f"{seconds:.3f}"]
         process = subprocess.Popen(
-            [harness.PROGRAM, *words], stdin=subprocess.DEVNULL, stdout=output, stderr=drawn_on
+            [*stop, harness.PROGRAM, *words], stdin=subprocess.DEVNULL, stdout=output, stderr=drawn_on
         )
         os.close(drawn_on)
         drawn = readers.submit(read_all, terminal)
-        time.sleep(seconds)
-        process.send_signal(signal.SIGINT)
         process.wait()
         if cat:
             cat.stdin.close()
