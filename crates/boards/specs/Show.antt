@@ -41,10 +41,6 @@ hand_in show board seat =
 abbrev pub counted_in : Show → Board → Seat → Option (List Bool)
 counted_in show board seat = if show.points then hand_in show board seat else None
 
--- the words that ask for points, and whether they are written
-abbrev pub points_words : List (List ℕ × Bool)
-points_words = (codes "show", true) ∷ (codes "hide", false) ∷ []
-
 -- all hands, with their points
 abbrev pub all_shown : Show
 all_shown = record { seats = show.All; points = true }

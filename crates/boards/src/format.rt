@@ -3,6 +3,8 @@
 ghost use Rattle.std.specs.Prelude.{◌≡◌};
 ghost use Rattle.boards.specs.Formats.{numbers_boards};
 
+use crate::words;
+
 /// A notation, as it is asked for by its name.
 #[derive(Clone, Copy)]
 pub enum Format {
@@ -24,19 +26,15 @@ pub enum Format {
     Numbers,
 }
 
-/// The formats that boards are asked for in, each with its name.
-pub const FORMATS: &[(&str, Format)] = &[
-    ("pbn", Format::Pbn),
-    ("hands", Format::Hands),
-    ("lin", Format::Lin),
-    ("html", Format::Html),
-    ("sheet", Format::Sheet),
-    ("slips", Format::Slips),
-    ("json", Format::Json),
-];
-
-/// Their names, as help lists them.
-pub const FORMAT_WORDS: &str = "pbn, hands, lin, html, sheet, slips, json";
+words! { Format:
+    "pbn" => Pbn,
+    "hands" => Hands,
+    "lin" => Lin,
+    "html" => Html,
+    "sheet" => Sheet,
+    "slips" => Slips,
+    "json" => Json,
+}
 
 /// What help says of the option that takes one of them: its name, a value and a text, whose lines
 /// have at most 53 columns.
@@ -53,10 +51,6 @@ impl Format {
     pub fn numbers_boards(self) -> bool
         ensures { result ≡ numbers_boards self }
     {
-        match self {
-            Format::Pbn | Format::Hands | Format::Lin => true,
-            Format::Html | Format::Sheet | Format::Slips | Format::Json => true,
-            Format::Numbers => false,
-        }
+        !matches!(self, Format::Numbers)
     }
 }

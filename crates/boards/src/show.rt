@@ -4,6 +4,7 @@ ghost use Rattle.std.specs.Prelude.{◌≡◌};
 ghost use Rattle.boards.specs.Show.{counted_in, hand_in, is_same, shows};
 
 use crate::board::Board;
+use crate::words;
 use cards::{Hand, Seat};
 
 /// The hands that are written of a board, as they are asked for by a word.
@@ -20,23 +21,16 @@ pub enum Seats {
     EastWest,
 }
 
-/// The words that ask for hands, each with what it asks for.
-pub const SHOWS: &[(&str, Seats)] = &[
-    ("all", Seats::All),
-    ("dealer", Seats::Dealer),
-    ("north", Seats::North),
-    ("east", Seats::East),
-    ("south", Seats::South),
-    ("west", Seats::West),
-    ("ns", Seats::NorthSouth),
-    ("ew", Seats::EastWest),
-];
-
-/// These words, as help lists them.
-pub const SHOW_WORDS: &str = "all, dealer, north, east, south, west, ns, ew";
-
-/// The words that ask for points, and whether they are written.
-pub const POINTS: &[(&str, bool)] = &[("show", true), ("hide", false)];
+words! { Seats:
+    "all" => All,
+    "dealer" => Dealer,
+    "north" => North,
+    "east" => East,
+    "south" => South,
+    "west" => West,
+    "ns" => NorthSouth,
+    "ew" => EastWest,
+}
 
 /// What is written of a board.
 #[derive(Clone, Copy)]

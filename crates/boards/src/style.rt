@@ -1,5 +1,7 @@
 //! How a table is written.
 
+use crate::words;
+
 /// How a table is written.
 #[derive(Clone, Copy)]
 pub enum TableStyle {
@@ -13,13 +15,9 @@ pub enum TableStyle {
     Json,
 }
 
-/// The styles, each with its name.
-pub const STYLES: &[(&str, TableStyle)] = &[
-    ("table", TableStyle::Table),
-    ("csv", TableStyle::Csv),
-    ("html", TableStyle::Html),
-    ("json", TableStyle::Json),
-];
-
-/// Their names, as help lists them.
-pub const STYLE_WORDS: &str = "table, csv, html, json";
+words! { TableStyle:
+    "table" => Table,
+    "csv" => Csv,
+    "html" => Html,
+    "json" => Json,
+}

@@ -27,7 +27,7 @@ impl Order {
         self as usize
     }
 
-    /// The number of this order among four.
+    /// Returns the greatest, the second greatest or the least of four lengths, as the order says.
     #[inline(always)]
     pub fn of(self, spades: u64, hearts: u64, diamonds: u64, clubs: u64) -> u64
         ensures value { result ≡ ordered self spades hearts diamonds clubs }

@@ -63,8 +63,15 @@ pub struct Unknown<'a> {
     pub values: &'static str,
 }
 
-/// An option, its words, and what each means.
+/// An option with its words: those of a type, or words with what each means.
 macro_rules! choice {
+    ($id:literal $kind:ident) => {
+        OptionWords {
+            id: $id,
+            values: $kind::WORDS,
+            table: $kind::NAMED,
+        }
+    };
     ($id:literal $first:literal => $meaning:expr $(, $word:literal => $other:expr)*) => {
         OptionWords {
             id: $id,

@@ -1,28 +1,12 @@
 //! clap's texts as they are shown on a terminal, whatever the words are.
 
+use sinks::put_shown;
 use std::alloc::{AllocError, Global};
 
 /// The longest word that is shown whole, and how much of a longer one is shown.
 const WHOLE: usize = 72;
 
 const PART: usize = 70;
-
-/// A byte as it is shown: printable ASCII as it is, any other as `?`.
-fn shown(byte: u8) -> char {
-    if 32 <= byte && byte < 127 {
-        char::from(byte)
-    } else {
-        '?'
-    }
-}
-
-/// Appends bytes of a word as they are shown.
-fn put_shown(out: &mut String, bytes: &[u8]) -> Result<(), AllocError> {
-    for byte in bytes {
-        out.push(shown(*byte))?;
-    }
-    Ok(())
-}
 
 /// Appends a word as it is shown, cut if it is long.
 fn put_word(out: &mut String, word: &[u8]) -> Result<(), AllocError> {
@@ -64,7 +48,8 @@ fn part_at<'a>(words: &'a [String], text: &[u8], is_quoted: bool) -> Option<&'a 
 }
 
 /// Returns clap's text of these words as it is shown on a terminal: a word of more than 72 bytes is
-/// cut, and a byte that would disturb the terminal, or isn't ASCII, is shown as `?`.
+/// cut, a tab is shown as a space, and a byte that would disturb the terminal, or isn't ASCII, as
+/// `?`.
 ///
 /// # Errors
 /// `AllocError` if an allocation failed.
@@ -83,8 +68,10 @@ pub fn shown_text(alloc: Global, words: &[String], text: &str) -> Result<String,
         if let Some(part) = part_at(words, rest, is_quoted) {
             put_word(&mut out, part)?;
             left = part.len().saturating_sub(1);
+        } else if *byte == b'\n' {
+            out.push('\n')?;
         } else {
-            out.push(if *byte == b'\n' { '\n' } else { shown(*byte) })?;
+            put_shown(&mut out, &[*byte])?;
         }
         is_quoted = *byte == b'\'';
     }

@@ -3,7 +3,7 @@
 use crate::streams::{hints_are_on, hints_of};
 use cards::Fixed;
 use clap::Error;
-use deals_cli::{Request, Search};
+use deals_cli::Request;
 use explain_conditions::rare_tests;
 use sinks::console::Remark;
 use std::alloc::Global;
@@ -37,20 +37,16 @@ impl Rare {
     }
 }
 
-/// The search of a request that has a condition. None if memory runs out.
+/// The search of a request that has a condition. None if its hands can't be read, or if memory runs
+/// out.
 fn with_condition(alloc: Global, request: &Request<'_>) -> Option<Searched> {
     let (search, _) = request.plans()?;
     let condition = search.where_text?;
     Some(Searched {
         condition: String::from_str(alloc, condition).ok()?,
         seed: search.seed,
-        fixed: fixed_of(&search)?,
+        fixed: search.hands.read().ok()?,
     })
-}
-
-/// The cards that are fixed, if they can be read.
-fn fixed_of(search: &Search<'_>) -> Option<Fixed> {
-    search.hands.read().ok()
 }
 
 impl Remark for Rare {

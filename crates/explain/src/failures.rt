@@ -14,7 +14,7 @@ use std::io;
 const TOO_MANY_ROWS: &str =
     "  hint: --of has a row for each answer: take smaller factors, or ask for a condition\n";
 
-/// What helps with a table of two that could be.
+/// What helps with a table of two questions that could be too large.
 const TOO_LARGE: &str =
     "  hint: rows of --of times columns of --by: add up fewer values, or ask for a condition\n";
 

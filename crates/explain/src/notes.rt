@@ -30,10 +30,10 @@ fn names_first(word: &str) -> bool {
 
 /// The numbers of the boards from this one on.
 fn boards_from(alloc: Global, board: u64, search: &Search<'_>) -> Option<String> {
-    let Some(boards) = search.boards else {
-        return format!(in alloc; "from {board} on").ok();
+    let last = match search.boards {
+        Some(boards) => board.checked_add(u64::from(boards))?.checked_sub(1)?,
+        None => board,
     };
-    let last = board.checked_add(u64::from(boards))?.checked_sub(1)?;
     if last == board {
         return format!(in alloc; "from {board} on").ok();
     }

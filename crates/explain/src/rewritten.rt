@@ -97,13 +97,10 @@ fn in_ascii(alloc: Global, text: &str) -> Option<String> {
 
 /// What is written for the letter, if that is anything else.
 fn spelling_of(letter: char) -> Option<&'static str> {
-    for row in &SPELLINGS {
-        let (spelling, letters) = *row;
-        if letters.chars().any(|one| one == letter) {
-            return Some(spelling);
-        }
-    }
-    None
+    let (spelling, _) = SPELLINGS
+        .iter()
+        .find(|(_, letters)| letters.chars().any(|one| one == letter))?;
+    Some(*spelling)
 }
 
 /// A number of a date, and how many digits it has.

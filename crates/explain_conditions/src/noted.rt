@@ -6,7 +6,7 @@ ghost use Rattle.cards.specs.Fixed.{none_fixed};
 ghost use Rattle.conditions.specs.declared.limits.TheConstants.{MOST_PARTS};
 ghost use Rattle.cond_lang.specs.Form.{form_of};
 ghost use Rattle.cond_lang.specs.Limits.{HasAtMostAtoms};
-ghost use Rattle.explain_conditions.specs.Note.{ends, first_of, note_line, turned_line, turned_range};
+ghost use Rattle.explain_conditions.specs.Note.{ends, note_line, turned_line, turned_range};
 ghost use Rattle.screens.specs.Never.{is_never};
 
 use cards::Fixed;
@@ -43,23 +43,11 @@ fn turned_range(tree: &Tree, fixed: &Fixed) -> Option<(u16, u16)>
 {
     match tree {
         Tree::AnyOf(left, right) if is_never_met(tree, fixed) => {
-            first_of(turned_range(left, fixed), turned_range(right, fixed))
+            turned_range(left, fixed).or(turned_range(right, fixed))
         }
-        Tree::AllOf(left, right) => {
-            first_of(turned_range(left, fixed), turned_range(right, fixed))
-        }
+        Tree::AllOf(left, right) => turned_range(left, fixed).or(turned_range(right, fixed)),
         Tree::Within(_, first, last) if last < first => Some((*first, *last)),
         _ => None,
-    }
-}
-
-/// The first of the two, if there is one.
-fn first_of(one: Option<(u16, u16)>, other: Option<(u16, u16)>) -> Option<(u16, u16)>
-    ensures { result ≡ first_of one other }
-{
-    match one {
-        Some(range) => Some(range),
-        None => other,
     }
 }
 

@@ -11,7 +11,7 @@ use crate::asked::TextKind;
 use crate::excerpt::put_excerpt;
 use crate::expected::put_expected;
 use crate::kinds::KindSet;
-use crate::rules::{Said, of_piece, of_syntax, suggested};
+use crate::rules::{ONE_OF, Said, of_piece, of_syntax, suggested, within};
 use cards::Fixed;
 use cond_lang::{Beginning, CondError, Kind, names_of, parse};
 use itoa::Buffer;
@@ -245,13 +245,8 @@ fn is_never_met(alloc: Global, condition: &[u8]) -> Result<bool, AllocError> {
 
 /// Whether no deal meets the test in the brackets of a class of suits.
 fn is_never_met_within(alloc: Global, test: &[u8]) -> Result<bool, AllocError> {
-    for class in ["suit", "major", "minor"] {
-        let mut text = Vec::new(alloc);
-        text.extend_from_slice(b"any ")?;
-        text.extend_from_slice(class.as_bytes())?;
-        text.extend_from_slice(b" (")?;
-        text.extend_from_slice(test)?;
-        text.push(b')')?;
+    for class in ONE_OF {
+        let text = within(alloc, class, test)?;
         match parse(alloc, text.as_slice()) {
             Ok(condition) => return Ok(is_never(&condition, &Fixed::none())),
             Err(CondError::Memory) => return Err(AllocError),

@@ -25,7 +25,7 @@ mod slips;
 mod tables;
 mod words;
 
-pub use filling::suggested;
+pub use filling::{ONE_OF, suggested, within};
 pub use hint::{Said, of_piece, of_syntax};
 pub use joined::joined_tests;
 pub use kinds::Kinds;

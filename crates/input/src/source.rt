@@ -9,6 +9,9 @@ use std::io::{ErrorKind, Read};
 /// The most bytes that a source gives.
 pub const MOST_BYTES: u64 = 1 << 50;
 
+/// The most turns of a loop over an input's bytes, lines or games, with the one that finds its end.
+pub(crate) const MOST_TURNS: u64 = MOST_BYTES + 1;
+
 /// A source couldn't be read.
 #[derive(Debug, Drop, Clone, Copy, PartialEq, Eq)]
 pub struct SourceFault;

@@ -26,6 +26,6 @@ mod slips;
 mod solved;
 mod table;
 
-pub use boards::{FORMAT_WORDS, FORMATS, Format, SHOW_WORDS, SHOWS, Show};
+pub use boards::{Format, Show};
 pub use printer::AnyPrinter;
 pub use solved::SolvedPrinter;

@@ -80,7 +80,7 @@ pub enum Questions<'a> {
 }
 
 impl<'a> Questions<'a> {
-    /// Returns the text of this question, if there is one of this name alone.
+    /// Returns the text of the question of this name. There is none if none or several have it.
     pub fn text(&self, name: QuestionName) -> Option<&'a str> {
         match (self, name) {
             (Questions::One(text), QuestionName::Of) => Some(*text),

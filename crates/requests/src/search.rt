@@ -39,7 +39,7 @@ pub struct Search<'a> {
 }
 
 impl<'a> Search<'a> {
-    /// Returns the search of a `pick`, which tries no candidates of its own.
+    /// Returns the search of a `pick` or a `show`, which tries no candidates of its own.
     pub fn none(seed: u32, hands: PredealtHands<'a>) -> Search<'a>
         ensures { search_of result ≡ no_search seed (given_by hands.entry) }
     {

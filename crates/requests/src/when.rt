@@ -1,5 +1,7 @@
 //! When a person is shown what programs don't read.
 
+use boards::words;
+
 /// When something is shown on the error output that is meant for a person: a run's counts while it
 /// lasts, or what helps below a refusal. Nothing else depends on it.
 #[derive(Clone, Copy)]
@@ -10,12 +12,8 @@ pub enum When {
     Never,
 }
 
-/// The words for these, each with what it means.
-pub const TIMES: &[(&str, When)] = &[
-    ("auto", When::Auto),
-    ("always", When::Always),
-    ("never", When::Never),
-];
-
-/// These words, as help lists them.
-pub const TIME_WORDS: &str = "auto, always, never";
+words! { When:
+    "auto" => Auto,
+    "always" => Always,
+    "never" => Never,
+}

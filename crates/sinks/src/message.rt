@@ -1,4 +1,4 @@
-//! A line of text with a number in it.
+//! A text with a number in it.
 
 ghost use Rattle.std.specs.Prelude.{◌≡◌, ◌++◌, ◌-◌, ◌^◌, ◌<◌, OnOk, decimal};
 ghost use Rattle.sinks.specs.Appended.{AppendsAll};
@@ -8,7 +8,7 @@ ghost use Rattle.sinks.specs.Messages.{text_of};
 use crate::sink::{Sink, SinkFault, put_all};
 use itoa::Buffer;
 
-/// A line: two texts, and a number between them.
+/// A text of two parts, with a number between them.
 #[derive(Drop)]
 pub struct Message<'a> {
     before: &'a str,
@@ -17,7 +17,7 @@ pub struct Message<'a> {
 }
 
 impl<'a> Message<'a> {
-    /// Returns a line without a number.
+    /// Returns a text without a number.
     pub fn plain(text: &'a str) -> Message<'a>
         ensures { text_of result ≡ text.entry.now }
     {
@@ -28,7 +28,7 @@ impl<'a> Message<'a> {
         }
     }
 
-    /// Returns a line with a number between its two texts.
+    /// Returns a text with a number between its two parts.
     pub fn with(before: &'a str, number: u64, after: &'a str) -> Message<'a>
         ensures { text_of result ≡ before.entry.now ++ decimal number ++ after.entry.now }
     {
@@ -39,7 +39,7 @@ impl<'a> Message<'a> {
         }
     }
 
-    /// Writes the line.
+    /// Writes the text.
     ///
     /// # Errors
     ///

@@ -25,6 +25,6 @@ mod sums;
 mod title;
 mod two;
 
-pub use boards::{STYLE_WORDS, STYLES, TableStyle};
+pub use boards::TableStyle;
 pub use counter::Counter;
 pub use subject::{MAX_CELLS, Subject, TitledQuestion};

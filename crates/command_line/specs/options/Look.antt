@@ -3,7 +3,7 @@ use Rattle.std.specs.Prelude.{true, ◌&&◌, ◌||◌, Bool, not, List, [], ◌
 use Rattle.clap.specs.Words.{Row, Rule, Text, first_of}
 use Rattle.clap.specs.declared.builder.value_parser.ValueParser.TheVariants as parsed
 use Rattle.boards.specs.Formats.{formats}
-use Rattle.boards.specs.Show.{points_words, show_words}
+use Rattle.boards.specs.Show.{show_words}
 use Rattle.boards.specs.declared.format.Format.TheVariants.{Pbn}
 use Rattle.boards.specs.declared.setting.Vul.{Vul}
 use Rattle.boards.specs.declared.setting.Vul.TheVariants.{Neither, NorthSouth, EastWest, Both}
@@ -40,7 +40,10 @@ text_rules =
     ∷ []
 
 -- options that have one of a few words, and what each word means; `boards` has the words for
--- formats, hands and points
+-- formats and hands
+abbrev pub points_words : List (Text × Bool)
+points_words = (codes "show", true) ∷ (codes "hide", false) ∷ []
+
 abbrev pub dealers : List (Text × Seat)
 dealers =
     (codes "N", North) ∷ (codes "E", East) ∷ (codes "S", South) ∷ (codes "W", West) ∷ []

@@ -10,7 +10,7 @@ ghost use Rattle.requests.specs.Requests.{look_of};
 use crate::given::{OptionWords, Unknown, choice, is_set, text_in, u64_in};
 use crate::helps::Section;
 use crate::rows::{OptionRow, Takes, optional};
-use boards::{FORMAT_HELP, FORMAT_WORDS, FORMATS, SHOW_WORDS, SHOWS, Seats, Show, Vul};
+use boards::{FORMAT_HELP, Seats, Show, Vul};
 use cards::Seat;
 use clap::ArgMatches;
 use requests::{Format, Look};
@@ -103,23 +103,11 @@ board]",
     },
 ];
 
-pub(crate) static FORMAT: OptionWords<Format> = OptionWords {
-    id: "format",
-    values: FORMAT_WORDS,
-    table: FORMATS,
-};
+pub(crate) static FORMAT: OptionWords<Format> = choice! { "format" Format };
 
-static SHOW: OptionWords<Seats> = OptionWords {
-    id: "show",
-    values: SHOW_WORDS,
-    table: SHOWS,
-};
+static SHOW: OptionWords<Seats> = choice! { "show" Seats };
 
-static POINTS: OptionWords<bool> = OptionWords {
-    id: "points",
-    values: "show, hide",
-    table: boards::POINTS,
-};
+static POINTS: OptionWords<bool> = choice! { "points" "show" => true, "hide" => false };
 
 static DEALER: OptionWords<Seat> = choice! { "dealer"
     "N" => Seat::North, "E" => Seat::East, "S" => Seat::South, "W" => Seat::West

@@ -6,11 +6,10 @@ ghost use Rattle.command_line.specs.options.Questions.{has_by_alone, has_extra, 
 ghost use Rattle.command_line.specs.options.Questions.{questions_from, questions_in, style_in};
 ghost use Rattle.requests.specs.Requests.{questions_of};
 
-use crate::given::{OptionWords, text_in};
+use crate::given::{OptionWords, choice, text_in};
 use crate::helps::Section;
 use crate::refusals::{COLUMNS_OF_SEVERAL, TOO_MANY};
 use crate::rows::{OptionRow, Takes, optional};
-use boards::{STYLE_WORDS, STYLES};
 use clap::ArgMatches;
 use requests::{MAX_QUESTIONS, Questions, TableStyle, Texts};
 
@@ -43,11 +42,7 @@ spreadsheets, html for a page, json for programs
 ];
 
 /// The format of `count`.
-pub(crate) static STYLE: OptionWords<TableStyle> = OptionWords {
-    id: "format",
-    values: STYLE_WORDS,
-    table: STYLES,
-};
+pub(crate) static STYLE: OptionWords<TableStyle> = choice! { "format" TableStyle };
 
 /// How the table is written.
 pub(crate) fn style_in(matches: &ArgMatches) -> TableStyle

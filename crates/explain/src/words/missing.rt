@@ -20,9 +20,11 @@ const SEED_OF_SEARCH: &str =
 
 const FOR_ROWS: &str = "--by comes beside --of: --of 'hcp(south)' --by 'longest(south)'";
 
-const ONE_QUESTION: &str =
-    "ask one thing here and the other by --by, or in a second run: --of 'hcp(south)' --by \
-    'longest(south)'";
+/// What helps where there are columns beside several questions.
+pub(crate) const ONE_QUESTION: &str =
+    "--by has columns for one --of: ask the others in a second run";
+
+const EIGHT_QUESTIONS: &str = "ask the others in a second run";
 
 const ONE_CONDITION: &str = "join conditions by and: --where 'hcp(north)>=15 and balanced(north)'";
 
@@ -64,11 +66,11 @@ pub(crate) fn of_value(alloc: Global, option: &str) -> Option<String> {
     valued(alloc, "write its value after it: ", option, sample, "")
 }
 
-/// What helps where this option occurs twice.
+/// What helps where this option occurs too often.
 pub(crate) fn of_repeat(alloc: Global, option: &str) -> Option<String> {
     match option {
         "--where" => joined(alloc, &[ONE_CONDITION]),
-        "--of" => joined(alloc, &[ONE_QUESTION]),
+        "--of" => joined(alloc, &[EIGHT_QUESTIONS]),
         _ => joined(alloc, &["write ", option, " once"]),
     }
 }

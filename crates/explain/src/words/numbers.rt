@@ -98,10 +98,8 @@ fn meant(alloc: Global, word: &str, digits: &str) -> Option<u64> {
 
 /// The number that the word in small letters means.
 fn number_of(word: &str, digits: &str) -> Option<u64> {
-    for (name, number) in &WORDS {
-        if *name == word {
-            return Some(*number);
-        }
+    if let Some((_, number)) = WORDS.iter().find(|(name, _)| *name == word) {
+        return Some(*number);
     }
     if let Some((head, power)) = word.split_once('e') {
         return times_power(head, power);

@@ -80,10 +80,6 @@ fn put_words(text: &mut String, words: &[String]) -> Result<(), AllocError> {
 
 /// Whether the text is short, and printable between single quotes.
 fn is_plain(text: &str) -> bool {
-    for byte in text.as_bytes() {
-        if !(32..127).contains(byte) || *byte == b'\'' {
-            return false;
-        }
-    }
-    text.len() <= LONGEST
+    let is_plain = |byte: &u8| (32..127).contains(byte) && *byte != b'\'';
+    text.len() <= LONGEST && text.as_bytes().iter().all(is_plain)
 }

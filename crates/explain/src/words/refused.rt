@@ -15,8 +15,10 @@ pub(crate) enum What {
     Value,
     /// This option has no value.
     NoValue,
-    /// This option occurs twice.
-    Twice,
+    /// This option occurs too often.
+    TooOften,
+    /// Columns are asked for beside several questions.
+    Columns,
     /// This flag has a value.
     Flag,
 }
@@ -31,7 +33,7 @@ pub(crate) struct Refused<'a> {
 
 /// How clap's text begins, what is after the word that it names there, and what is refused. Where
 /// an option is shown after that, it is as in `--seed <S>'`.
-static FORMS: [(&str, &str, What); 8] = [
+static FORMS: [(&str, &str, What); 9] = [
     ("unexpected argument '", "' found", What::Argument),
     ("unrecognized subcommand '", "'\n", What::Command),
     (
@@ -42,7 +44,12 @@ static FORMS: [(&str, &str, What); 8] = [
     ("requires a subcommand", "", What::NoCommand),
     ("invalid value '", "' for '", What::Value),
     ("a value is required for '", "", What::NoValue),
-    ("the argument '", "", What::Twice),
+    (
+        "the argument '--by <TEXT>' cannot be used with",
+        "",
+        What::Columns,
+    ),
+    ("the argument '", "", What::TooOften),
     ("unexpected value '", "' for '", What::Flag),
 ];
 

@@ -31,10 +31,5 @@ pub(crate) fn find(table: &'static str, of: &str, word: &str) -> Option<&'static
 
 /// Whether the text is one of these, which have the sign between them.
 fn is_one_of(texts: &str, sign: char, text: &str) -> bool {
-    for known in texts.split(sign) {
-        if known == text || known == "*" {
-            return true;
-        }
-    }
-    false
+    texts.split(sign).any(|known| known == text || known == "*")
 }

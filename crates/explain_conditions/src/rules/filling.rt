@@ -25,7 +25,7 @@
 
 use crate::rules::amounts::{Amount, amount_at, counted_at, ordered};
 use crate::rules::hint::Said;
-use crate::rules::lists::{ENDS, STARTS};
+use crate::rules::lists::{ENDS, STARTS, THROUGH};
 use crate::rules::parts::Parts;
 use crate::rules::rule::{fits, without_zeros};
 use crate::rules::samples::{comparison, sample};
@@ -33,6 +33,9 @@ use crate::rules::words::{is, is_one_of, is_seat, number};
 use cond_lang::{CondError, Token, WORDS, parse};
 use itoa::Buffer;
 use std::alloc::{AllocError, Global};
+
+/// The classes of suits of which one suit may meet a test.
+pub const ONE_OF: [&str; 3] = ["suit", "major", "minor"];
 
 /// What comes after a word and a seat, where it isn't a suit or the bracket.
 static AFTER_SEATS: &[(&str, &str)] = &[
@@ -165,25 +168,25 @@ fn is_accepted_in(alloc: Global, parts: &Parts, condition: &[u8]) -> Result<bool
     if is_accepted(alloc, condition)? {
         return Ok(true);
     }
-    if !parts.has("any every") {
+    if !parts.has(THROUGH) {
         return Ok(false);
     }
-    for class in ["suit", "major", "minor"] {
-        if is_accepted_of(alloc, class, condition)? {
+    for class in ONE_OF {
+        if is_accepted(alloc, within(alloc, class, condition)?.as_slice())? {
             return Ok(true);
         }
     }
     Ok(false)
 }
 
-/// Whether the language has the condition where the class is named.
-fn is_accepted_of(alloc: Global, class: &str, condition: &[u8]) -> Result<bool, AllocError> {
+/// Returns the condition that some suit of the class meets the test.
+///
+/// # Errors
+/// `AllocError` if an allocation failed.
+pub fn within(alloc: Global, class: &str, test: &[u8]) -> Result<Vec<u8>, AllocError> {
     let mut out = Vec::new(alloc);
-    put_all(
-        &mut out,
-        &[b"any ", class.as_bytes(), b" (", condition, b")"],
-    )?;
-    is_accepted(alloc, out.as_slice())
+    put_all(&mut out, &[b"any ", class.as_bytes(), b" (", test, b")"])?;
+    Ok(out)
 }
 
 /// Whether the language has the condition.
@@ -275,12 +278,8 @@ fn put_after_seat(out: &mut Vec<u8>, parts: &Parts, word: &[u8]) -> Result<(), A
 
 /// What comes after the word and a seat, where no suit does.
 fn after_seat(word: &[u8]) -> &'static str {
-    for (asked, after) in AFTER_SEATS {
-        if is(word, asked) {
-            return after;
-        }
-    }
-    ")"
+    let found = AFTER_SEATS.iter().find(|(asked, _)| is(word, asked));
+    found.map_or(")", |(_, after)| *after)
 }
 
 fn put_amount(out: &mut Vec<u8>, amount: Option<Amount>) -> Result<(), AllocError> {

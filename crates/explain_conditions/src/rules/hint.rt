@@ -9,44 +9,15 @@ use crate::rules::tables::{
     several, shapes, short, sides, signs, suits, texts, whole,
 };
 use crate::rules::{bounds, likeness, outside};
-use cond_lang::Kind;
 use std::alloc::{AllocError, Global};
 
 /// A hint's bytes, if there is one.
 pub type Said = Result<Option<Vec<u8>>, AllocError>;
 
-/// What may have a hint: a table, or code.
+/// What may have a hint: the rules of a table, or code.
 #[derive(Clone, Copy)]
 enum HintSource {
-    Calls,
-    Classes,
-    Compared,
-    Factors,
-    Given,
-    Honours,
-    Instead,
-    Joins,
-    Lessons,
-    Letters,
-    Limits,
-    Lists,
-    MoreOrLess,
-    Names,
-    Nouns,
-    OrMore,
-    Phrases,
-    Plain,
-    Ranges,
-    Ranks,
-    Rest,
-    Scripts,
-    Several,
-    Short,
-    Sides,
-    Signs,
-    Suits,
-    Texts,
-    Whole,
+    Rules(&'static str),
     Outside,
     Bounds,
     NameLikeness,
@@ -55,44 +26,48 @@ enum HintSource {
 
 /// What is asked of a piece that isn't in the language, and of a token that isn't allowed there.
 static EITHER: [HintSource; 14] = [
-    HintSource::Given,
-    HintSource::Texts,
-    HintSource::Whole,
-    HintSource::Plain,
-    HintSource::Sides,
+    HintSource::Rules(given::RULES),
+    HintSource::Rules(texts::RULES),
+    HintSource::Rules(whole::RULES),
+    HintSource::Rules(plain::RULES),
+    HintSource::Rules(sides::RULES),
     HintSource::Outside,
-    HintSource::Phrases,
-    HintSource::Suits,
-    HintSource::Classes,
+    HintSource::Rules(phrases::RULES),
+    HintSource::Rules(suits::RULES),
+    HintSource::Rules(classes::RULES),
     HintSource::Bounds,
-    HintSource::Several,
-    HintSource::Lists,
-    HintSource::Ranges,
-    HintSource::MoreOrLess,
+    HintSource::Rules(several::RULES),
+    HintSource::Rules(lists::RULES),
+    HintSource::Rules(ranges::RULES),
+    HintSource::Rules(more_or_less::RULES),
 ];
 
 /// What is asked of a piece after `EITHER`.
 static PIECE: [HintSource; 16] = [
     HintSource::NameLikeness,
-    HintSource::Lessons,
-    HintSource::OrMore,
-    HintSource::Limits,
-    HintSource::Compared,
-    HintSource::Letters,
-    HintSource::Nouns,
-    HintSource::Scripts,
-    HintSource::Short,
-    HintSource::Instead,
-    HintSource::Honours,
-    HintSource::Ranks,
-    HintSource::Names,
+    HintSource::Rules(lessons::RULES),
+    HintSource::Rules(or_more::RULES),
+    HintSource::Rules(limits::RULES),
+    HintSource::Rules(compared::RULES),
+    HintSource::Rules(letters::RULES),
+    HintSource::Rules(nouns::RULES),
+    HintSource::Rules(scripts::RULES),
+    HintSource::Rules(short::RULES),
+    HintSource::Rules(instead::RULES),
+    HintSource::Rules(honours::RULES),
+    HintSource::Rules(ranks::RULES),
+    HintSource::Rules(names::RULES),
     HintSource::Likeness,
-    HintSource::Signs,
-    HintSource::Rest,
+    HintSource::Rules(signs::RULES),
+    HintSource::Rules(rest::RULES),
 ];
 
 /// What is asked of a token after `EITHER`; before it, the rules for shapes.
-static TOKEN: [HintSource; 3] = [HintSource::Factors, HintSource::Calls, HintSource::Joins];
+static TOKEN: [HintSource; 3] = [
+    HintSource::Rules(factors::RULES),
+    HintSource::Rules(calls::RULES),
+    HintSource::Rules(joins::RULES),
+];
 
 /// Returns the hint for the piece at the byte `at` of the text, which isn't in the language, if a
 /// rule has one.
@@ -100,10 +75,7 @@ static TOKEN: [HintSource; 3] = [HintSource::Factors, HintSource::Calls, HintSou
 /// # Errors
 /// `AllocError` if an allocation failed.
 pub fn of_piece(alloc: Global, text: &[u8], at: usize) -> Said {
-    let can = Kinds {
-        holds: [false; Kind::COUNT],
-    };
-    let parts = Parts::of(alloc, text, at, can)?;
+    let parts = Parts::of(alloc, text, at, Kinds::none())?;
     let said = of_either(alloc, &parts)?;
     if said.is_some() {
         return Ok(said);
@@ -150,45 +122,6 @@ fn hint_of(alloc: Global, parts: &Parts, source: HintSource) -> Said {
         HintSource::Bounds => bounds::hint(alloc, parts),
         HintSource::NameLikeness => likeness::name_hint(alloc, parts),
         HintSource::Likeness => likeness::hint(alloc, parts),
-        _ => first_in(alloc, parts, rules_of(source)),
-    }
-}
-
-/// The rules of a table.
-fn rules_of(source: HintSource) -> &'static str {
-    match source {
-        HintSource::Calls => calls::RULES,
-        HintSource::Classes => classes::RULES,
-        HintSource::Compared => compared::RULES,
-        HintSource::Factors => factors::RULES,
-        HintSource::Given => given::RULES,
-        HintSource::Honours => honours::RULES,
-        HintSource::Instead => instead::RULES,
-        HintSource::Joins => joins::RULES,
-        HintSource::Lessons => lessons::RULES,
-        HintSource::Letters => letters::RULES,
-        HintSource::Limits => limits::RULES,
-        HintSource::Lists => lists::RULES,
-        HintSource::MoreOrLess => more_or_less::RULES,
-        HintSource::Names => names::RULES,
-        HintSource::Nouns => nouns::RULES,
-        HintSource::OrMore => or_more::RULES,
-        HintSource::Phrases => phrases::RULES,
-        HintSource::Plain => plain::RULES,
-        HintSource::Ranges => ranges::RULES,
-        HintSource::Ranks => ranks::RULES,
-        HintSource::Rest => rest::RULES,
-        HintSource::Scripts => scripts::RULES,
-        HintSource::Several => several::RULES,
-        HintSource::Short => short::RULES,
-        HintSource::Sides => sides::RULES,
-        HintSource::Signs => signs::RULES,
-        HintSource::Suits => suits::RULES,
-        HintSource::Texts => texts::RULES,
-        HintSource::Whole => whole::RULES,
-        HintSource::Outside
-        | HintSource::Bounds
-        | HintSource::NameLikeness
-        | HintSource::Likeness => "",
+        HintSource::Rules(rules) => first_in(alloc, parts, rules),
     }
 }

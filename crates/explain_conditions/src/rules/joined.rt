@@ -1,9 +1,9 @@
 //! The tests of a condition that are joined by `and`.
 
 use crate::rules::kinds::Kinds;
+use crate::rules::outside::has_or;
 use crate::rules::parts::Parts;
-use crate::rules::words::is;
-use cond_lang::Kind;
+use crate::rules::words::{depth_after, is};
 use std::alloc::{AllocError, Global};
 
 /// Returns the tests that the condition joins by `and`, as they are written. One that has an `or`
@@ -12,12 +12,9 @@ use std::alloc::{AllocError, Global};
 /// # Errors
 /// `AllocError` if an allocation failed.
 pub fn joined_tests<'t>(alloc: Global, condition: &'t [u8]) -> Result<Vec<&'t [u8]>, AllocError> {
-    let can = Kinds {
-        holds: [false; Kind::COUNT],
-    };
-    let parts = Parts::of(alloc, condition, condition.len(), can)?;
+    let parts = Parts::of(alloc, condition, condition.len(), Kinds::none())?;
     let mut tests = Vec::new(alloc);
-    if parts.has("let") || has_outer_or(&parts) {
+    if parts.has("let") || has_or(&parts, 1, parts.count()) {
         return Ok(tests);
     }
     let mut first = 1;
@@ -36,28 +33,4 @@ pub fn joined_tests<'t>(alloc: Global, condition: &'t [u8]) -> Result<Vec<&'t [u
             .unwrap_or(b""),
     )?;
     Ok(tests)
-}
-
-/// Whether an `or` is outside all brackets.
-fn has_outer_or(parts: &Parts) -> bool {
-    let mut depth: usize = 0;
-    for i in 1..parts.count() {
-        let part = parts.at(i);
-        depth = depth_after(depth, part);
-        if depth == 0 && is(part, "or") {
-            return true;
-        }
-    }
-    false
-}
-
-/// In how many brackets what comes after the part is.
-fn depth_after(depth: usize, part: &[u8]) -> usize {
-    if is(part, "(") {
-        depth.saturating_add(1)
-    } else if is(part, ")") {
-        depth.saturating_sub(1)
-    } else {
-        depth
-    }
 }

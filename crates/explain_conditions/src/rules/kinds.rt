@@ -1,4 +1,4 @@
-//! The kinds of tokens that may come at a fault.
+//! Sets of kinds of tokens, as the rules for hints take them.
 
 use cond_lang::Kind;
 
@@ -12,6 +12,13 @@ pub struct Kinds {
 }
 
 impl Kinds {
+    /// No kinds.
+    pub(crate) fn none() -> Kinds {
+        Kinds {
+            holds: [false; Kind::COUNT],
+        }
+    }
+
     /// Whether the kind is in the set, which has no names.
     pub(crate) fn has(&self, kind: Kind) -> bool {
         match self.holds.get(kind.place()) {

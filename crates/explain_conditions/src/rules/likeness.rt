@@ -2,6 +2,7 @@
 
 use crate::rules::filling::joined;
 use crate::rules::hint::Said;
+use crate::rules::lists::THROUGH;
 use crate::rules::parts::Parts;
 use crate::rules::words::{is, is_call, is_one_of, is_seat, is_suit};
 use cond_lang::WORDS;
@@ -97,7 +98,7 @@ fn is_at_home(parts: &Parts, word: &[u8]) -> bool {
         };
     }
     if is_one_of(word, "seat ns ew partner left right") {
-        return is_one_of(parts.at(parts.fault.saturating_sub(1)), "any every");
+        return is_one_of(parts.at(parts.fault.saturating_sub(1)), THROUGH);
     }
     !is(parts.at(parts.fault.saturating_add(1)), "(") || is_call(word)
 }

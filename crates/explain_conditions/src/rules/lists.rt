@@ -5,6 +5,12 @@ pub(crate) const STARTS: &str = " ( and or not";
 
 pub(crate) const ENDS: &str = " ) and or";
 
+/// The classes of suits, and what stands for the others in their brackets.
+pub(crate) const CLASSES: &str = "suit major minor other";
+
+/// What goes through a class.
+pub(crate) const THROUGH: &str = "any every";
+
 static LISTS: [(&str, &str); 20] = [
     ("STARTS", STARTS),
     ("ENDS", ENDS),
@@ -63,10 +69,6 @@ static LISTS: [(&str, &str); 20] = [
 
 /// The texts that are meant, and what is between them: a list of this name, or what stands there.
 pub(crate) fn listed(texts: &str) -> (&str, char) {
-    for (name, list) in &LISTS {
-        if *name == texts {
-            return (list, ' ');
-        }
-    }
-    (texts, '|')
+    let list = LISTS.iter().find(|(name, _)| *name == texts);
+    list.map_or((texts, '|'), |(_, list)| (*list, ' '))
 }

@@ -2,14 +2,11 @@
 
 use crate::rules::filling::{is_accepted, joined};
 use crate::rules::hint::Said;
+use crate::rules::lists::{CLASSES, THROUGH};
 use crate::rules::parts::Parts;
-use crate::rules::words::{is, is_one_of};
+use crate::rules::words::{depth_after, is, is_one_of, is_short_line};
 use cond_lang::Kind;
 use std::alloc::{AllocError, Global};
-
-const CLASSES: &str = "suit major minor other";
-
-const THROUGH: &str = "any every";
 
 /// The longest condition that is told to write.
 const LONGEST: usize = 240;
@@ -74,17 +71,13 @@ fn outside_of(parts: &Parts, class: &[u8], start: usize) -> Option<Outside> {
     })
 }
 
-/// Where the bracket is that closes this one.
+/// Where the bracket is that closes the one at `open`.
 fn closing(parts: &Parts, open: usize) -> Option<usize> {
     let mut depth: usize = 0;
     for i in open..parts.count() {
-        if is(parts.at(i), "(") {
-            depth = depth.saturating_add(1);
-        } else if is(parts.at(i), ")") {
-            depth = depth.saturating_sub(1);
-            if depth == 0 {
-                return Some(i);
-            }
+        depth = depth_after(depth, parts.at(i));
+        if depth == 0 {
+            return Some(i);
         }
     }
     None
@@ -105,11 +98,7 @@ fn end_of_tests(parts: &Parts, class: &[u8], from: usize) -> usize {
                 return end;
             }
         }
-        if is(part, "(") {
-            depth = depth.saturating_add(1);
-        } else if is(part, ")") {
-            depth = depth.saturating_sub(1);
-        }
+        depth = depth_after(depth, part);
         is_named = is_named || part == class;
     }
     end
@@ -129,7 +118,7 @@ fn moved(alloc: Global, parts: &Parts, found: Outside) -> Result<Option<Vec<u8>>
     put(&mut out, parts, first, found.start)?;
     put_inside(&mut out, parts, found)?;
     put(&mut out, parts, found.end, after)?;
-    let is_told = is_plain(out.as_slice()) && is_accepted(alloc, out.as_slice())?;
+    let is_told = is_short_line(out.as_slice(), LONGEST) && is_accepted(alloc, out.as_slice())?;
     Ok(is_told.then_some(out))
 }
 
@@ -145,15 +134,12 @@ fn is_clear(parts: &Parts, found: Outside) -> bool {
 }
 
 /// Whether an `or` is among the parts from one up to another, outside of brackets.
-fn has_or(parts: &Parts, from: usize, to: usize) -> bool {
+pub(crate) fn has_or(parts: &Parts, from: usize, to: usize) -> bool {
     let mut depth: usize = 0;
     for i in from..to {
         let part = parts.at(i);
-        if is(part, "(") {
-            depth = depth.saturating_add(1);
-        } else if is(part, ")") {
-            depth = depth.saturating_sub(1);
-        } else if depth == 0 && is(part, "or") {
+        depth = depth_after(depth, part);
+        if depth == 0 && is(part, "or") {
             return true;
         }
     }
@@ -217,14 +203,4 @@ fn put_line(out: &mut Vec<u8>, text: &[u8]) -> Result<(), AllocError> {
         out.push(if is_blank { b' ' } else { *byte })?;
     }
     Ok(())
-}
-
-/// Whether it is short, and printable with no comment in it.
-fn is_plain(condition: &[u8]) -> bool {
-    for byte in condition {
-        if !(32..127).contains(byte) || *byte == b'#' {
-            return false;
-        }
-    }
-    condition.len() <= LONGEST
 }

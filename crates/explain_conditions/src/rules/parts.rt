@@ -3,8 +3,14 @@
 ghost use Rattle.std.specs.Prelude.{◌<◌, ◌≤◌, length};
 
 use crate::rules::kinds::Kinds;
-use crate::rules::words::{is, is_in_value, is_number, is_one_of, is_seat};
+use crate::rules::lists::THROUGH;
+use crate::rules::words::{
+    depth_after, is, is_in_value, is_number, is_one_of, is_seat, is_short_line,
+};
 use std::alloc::{AllocError, Global};
+
+/// The longest text that a hint repeats.
+const LONGEST: usize = 60;
 
 /// What a byte belongs to.
 #[derive(Clone, Copy)]
@@ -229,11 +235,7 @@ impl<'t> Parts<'t> {
         let mut depth: usize = 0;
         for i in open..self.fault {
             let part = self.at(i);
-            if is(part, "(") {
-                depth = depth.saturating_add(1);
-            } else if is(part, ")") {
-                depth = depth.saturating_sub(1);
-            }
+            depth = depth_after(depth, part);
             if depth == 0 {
                 return false;
             }
@@ -313,7 +315,7 @@ impl<'t> Parts<'t> {
             return None;
         }
         let line = self.written(start, last)?;
-        is_short_line(line).then_some(line)
+        is_short_line(line, LONGEST).then_some(line)
     }
 
     /// Where the word of the call is in which the fault is. At 0, if it is in none.
@@ -344,7 +346,7 @@ impl<'t> Parts<'t> {
                 depth = depth.saturating_add(1);
             } else if is(bytes, "(") && depth > 0 {
                 depth -= 1;
-            } else if is(bytes, "(") && is_one_of(self.at(i.saturating_sub(2)), "any every") {
+            } else if is(bytes, "(") && is_one_of(self.at(i.saturating_sub(2)), THROUGH) {
                 return self.at(i.saturating_sub(1));
             }
         }
@@ -362,14 +364,4 @@ fn bytes_at<'t>(parts: &[TextPart<'t>], i: usize) -> &'t [u8] {
         Some(part) => part.bytes,
         None => b"",
     }
-}
-
-/// Whether the bytes fit in a hint as they are.
-fn is_short_line(bytes: &[u8]) -> bool {
-    for byte in bytes {
-        if !(32..127).contains(byte) || *byte == b'#' {
-            return false;
-        }
-    }
-    bytes.len() <= 60
 }

@@ -53,98 +53,6 @@ const MEASURES: &str = "MEASURES";
 
 const ORDERS: &str = "ORDERS";
 
-/// What a word of a pattern wants, but for a text that stands there.
-#[derive(Clone, Copy)]
-enum Want {
-    Can,
-    Cannot,
-    In,
-    NotIn,
-    InCall,
-    NotInCall,
-    InCount,
-    Except,
-    Named,
-    Begins,
-    Nothing,
-    Any,
-    Number,
-    Digits,
-    Zeros,
-    Length,
-    Above,
-    Follows,
-    Relation,
-    Seat,
-    Suit,
-    Word,
-    Known,
-    Name,
-    InName,
-    Later,
-    Own,
-    Defined,
-    InPlainBody,
-    Ranks,
-    Capital,
-    CapitalWord,
-    CapitalRanks,
-    Count,
-    NoValue,
-    Value,
-    Call,
-    Bracketed,
-    Chained,
-    Suffix,
-    Amount,
-    Counted,
-}
-
-static WANTS: [(&str, Want); 42] = [
-    ("Can", Want::Can),
-    ("Cannot", Want::Cannot),
-    ("In", Want::In),
-    ("NotIn", Want::NotIn),
-    ("InCall", Want::InCall),
-    ("NotInCall", Want::NotInCall),
-    ("InCount", Want::InCount),
-    ("Except", Want::Except),
-    ("Named", Want::Named),
-    ("Begins", Want::Begins),
-    ("Nothing", Want::Nothing),
-    ("Any", Want::Any),
-    ("Number", Want::Number),
-    ("Digits", Want::Digits),
-    ("Zeros", Want::Zeros),
-    ("Length", Want::Length),
-    ("Above", Want::Above),
-    ("Follows", Want::Follows),
-    ("Relation", Want::Relation),
-    ("Seat", Want::Seat),
-    ("Suit", Want::Suit),
-    ("Word", Want::Word),
-    ("Known", Want::Known),
-    ("Name", Want::Name),
-    ("InName", Want::InName),
-    ("Later", Want::Later),
-    ("Own", Want::Own),
-    ("Defined", Want::Defined),
-    ("InPlainBody", Want::InPlainBody),
-    ("Ranks", Want::Ranks),
-    ("Capital", Want::Capital),
-    ("CapitalWord", Want::CapitalWord),
-    ("CapitalRanks", Want::CapitalRanks),
-    ("Count", Want::Count),
-    ("NoValue", Want::NoValue),
-    ("Value", Want::Value),
-    ("Call", Want::Call),
-    ("Bracketed", Want::Bracketed),
-    ("Chained", Want::Chained),
-    ("Suffix", Want::Suffix),
-    ("Amount", Want::Amount),
-    ("Counted", Want::Counted),
-];
-
 /// The kinds of tokens that rules ask for.
 static KINDS: [(&str, Kind); 17] = [
     ("Let", Kind::Let),
@@ -185,26 +93,10 @@ pub(crate) fn fits(parts: &Parts, pattern: &str) -> bool {
     true
 }
 
-/// Whether the part is what the word of a pattern wants.
-fn is_wanted(parts: &Parts, i: usize, word: &str) -> bool {
-    let (name, texts) = word.split_once(':').unwrap_or((word, ""));
-    for (known, want) in &WANTS {
-        if *known == name {
-            return is_met(parts, i, *want, texts);
-        }
-    }
-    is_among(parts.at(i), word)
-}
-
 /// Whether the part is one of the texts of a pattern.
 fn is_among(part: &[u8], texts: &str) -> bool {
     let (texts, sign) = listed(texts);
-    for text in texts.split(sign) {
-        if is_text(part, text) {
-            return true;
-        }
-    }
-    false
+    texts.split(sign).any(|text| is_text(part, text))
 }
 
 /// Whether the part is the text of a pattern, or a word for which that stands.
@@ -219,98 +111,94 @@ fn is_text(part: &[u8], text: &str) -> bool {
 /// Whether the part begins with one of the texts of a pattern.
 fn begins_with(part: &[u8], texts: &str) -> bool {
     let (texts, sign) = listed(texts);
-    for text in texts.split(sign) {
-        if part.starts_with(text.as_bytes()) {
-            return true;
-        }
-    }
-    false
+    texts
+        .split(sign)
+        .any(|text| part.starts_with(text.as_bytes()))
 }
 
 /// Whether it is so that a token of the kind may come at the fault.
 fn can_be(parts: &Parts, name: &str, is_so: bool) -> bool {
-    for (known, kind) in &KINDS {
-        if *known == name {
-            return parts.can.has(*kind) == is_so;
-        }
-    }
-    false
+    let kind = KINDS.iter().find(|(known, _)| *known == name);
+    kind.is_some_and(|(_, kind)| parts.can.has(*kind) == is_so)
 }
 
-/// Whether what is wanted is so at the part.
-fn is_met(parts: &Parts, i: usize, want: Want, texts: &str) -> bool {
+/// Whether the part is what the word of a pattern wants: by a name, with texts after a colon, or as
+/// one of the texts that stand there.
+fn is_wanted(parts: &Parts, i: usize, word: &str) -> bool {
+    let (name, texts) = word.split_once(':').unwrap_or((word, ""));
     let part = parts.at(i);
-    match want {
-        Want::Can => can_be(parts, texts, true),
-        Want::Cannot => can_be(parts, texts, false),
-        Want::In => is_among(parts.call(), texts),
-        Want::NotIn => !is_among(parts.call(), texts),
-        Want::InCall => is_call(parts.call()),
-        Want::NotInCall => !is_call(parts.call()),
-        Want::InCount => is_count(parts.call()),
-        Want::Except => !is_among(part, texts),
-        Want::Named => is_among(parts.word.as_slice(), texts),
-        Want::Begins => begins_with(part, texts),
-        Want::Nothing => part.is_empty(),
-        Want::Any => true,
-        Want::Number => is_number(part),
-        Want::Digits => is_number(part) && part.len() == number(texts.as_bytes()),
-        Want::Length => is_number(part) || is(part, "x"),
-        Want::Relation => is_relation(part),
-        Want::Seat => is_seat(part),
-        Want::Suit => is_suit(part),
-        Want::Word => is_word(part),
-        Want::Known => token_of(part).is_some(),
-        Want::Name => is_name(part),
-        Want::InName => is_name(parts.call()),
-        Want::Later => is_name(part) && parts.given_at(part) > i,
-        Want::Own => is_name(part) && parts.is_in_own_brackets(i),
-        Want::Defined => parts.ends_definition(i),
-        Want::InPlainBody => parts.is_in_plain_body(),
-        Want::Ranks => is_word(part) && are_ranks(part),
-        Want::Count => is_count(part),
-        Want::NoValue => !is_number(part) && !is_count(part),
-        _ => is_met_beside(parts, i, want, texts),
+    match name {
+        "Can" => can_be(parts, texts, true),
+        "Cannot" => can_be(parts, texts, false),
+        "In" => is_among(parts.call(), texts),
+        "NotIn" => !is_among(parts.call(), texts),
+        "InCall" => is_call(parts.call()),
+        "NotInCall" => !is_call(parts.call()),
+        "InCount" => is_count(parts.call()),
+        "Except" => !is_among(part, texts),
+        "Named" => is_among(parts.word.as_slice(), texts),
+        "Begins" => begins_with(part, texts),
+        "Nothing" => part.is_empty(),
+        "Any" => true,
+        "Number" => is_number(part),
+        "Digits" => is_number(part) && part.len() == number(texts.as_bytes()),
+        "Length" => is_number(part) || is(part, "x"),
+        "Relation" => is_relation(part),
+        "Seat" => is_seat(part),
+        "Suit" => is_suit(part),
+        "Word" => is_word(part),
+        "Known" => token_of(part).is_some(),
+        "Name" => is_name(part),
+        "InName" => is_name(parts.call()),
+        "Later" => is_name(part) && parts.given_at(part) > i,
+        "Own" => is_name(part) && parts.is_in_own_brackets(i),
+        "Defined" => parts.ends_definition(i),
+        "InPlainBody" => parts.is_in_plain_body(),
+        "Ranks" => is_word(part) && are_ranks(part),
+        "Count" => is_count(part),
+        "NoValue" => !is_number(part) && !is_count(part),
+        _ => is_wanted_beside(parts, i, word),
     }
 }
 
-/// Whether what is wanted is so at the part, by its letters or the parts before it.
-fn is_met_beside(parts: &Parts, i: usize, want: Want, texts: &str) -> bool {
+/// The same of what is wanted of a part's letters, or of the parts before it.
+fn is_wanted_beside(parts: &Parts, i: usize, word: &str) -> bool {
+    let (name, texts) = word.split_once(':').unwrap_or((word, ""));
     let part = parts.at(i);
-    match want {
-        Want::Above => is_number(part) && number(parts.at(i.saturating_sub(2))) < number(part),
-        Want::Zeros => is_number(part) && without_zeros(part).len() <= 4,
-        Want::Follows => is_next(parts.at(i.saturating_sub(2)), part),
-        Want::Suffix => is(part, texts) && parts.is_suffix(i),
-        Want::Capital | Want::CapitalWord | Want::CapitalRanks => {
-            is_capital(part, parts.word.as_slice(), want)
+    match name {
+        "Above" => is_number(part) && number(parts.at(i.saturating_sub(2))) < number(part),
+        "Zeros" => is_number(part) && without_zeros(part).len() <= 4,
+        "Follows" => is_next(parts.at(i.saturating_sub(2)), part),
+        "Suffix" => is(part, texts) && parts.is_suffix(i),
+        "Capital" | "CapitalWord" | "CapitalRanks" => {
+            is_capital(part, parts.word.as_slice(), name)
         }
-        _ => is_met_by_value(parts, i, want),
+        _ => is_wanted_by_value(parts, i, word),
     }
 }
 
 /// Whether the part has letters that aren't small, and is what is wanted once they are.
-fn is_capital(part: &[u8], word: &[u8], want: Want) -> bool {
+fn is_capital(part: &[u8], word: &[u8], name: &str) -> bool {
     if part == word {
         return false;
     }
-    match want {
-        Want::CapitalWord => token_of(word).is_some(),
-        Want::CapitalRanks => is_word(part) && are_ranks(word),
+    match name {
+        "CapitalWord" => token_of(word).is_some(),
+        "CapitalRanks" => is_word(part) && are_ranks(word),
         _ => is_word(part),
     }
 }
 
-/// Whether what is wanted of a value or an amount is so at the part.
-fn is_met_by_value(parts: &Parts, i: usize, want: Want) -> bool {
-    match want {
-        Want::Value => parts.value(i).is_some(),
-        Want::Call => is(parts.at(i), ")") && parts.value(i).is_some(),
-        Want::Bracketed => is(before_value(parts, i), "(") && parts.value(i).is_some(),
-        Want::Chained => is_relation(before_value(parts, i)),
-        Want::Amount => amount_at(parts, i).is_some(),
-        Want::Counted => counted_at(parts, i).0 != "",
-        _ => false,
+/// The same of what is wanted of a value or an amount.
+fn is_wanted_by_value(parts: &Parts, i: usize, word: &str) -> bool {
+    match word {
+        "Value" => parts.value(i).is_some(),
+        "Call" => is(parts.at(i), ")") && parts.value(i).is_some(),
+        "Bracketed" => is(before_value(parts, i), "(") && parts.value(i).is_some(),
+        "Chained" => is_relation(before_value(parts, i)),
+        "Amount" => amount_at(parts, i).is_some(),
+        "Counted" => counted_at(parts, i).0 != "",
+        _ => is_among(parts.at(i), word),
     }
 }
 

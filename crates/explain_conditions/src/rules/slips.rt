@@ -1,9 +1,9 @@
 //! Slips in a condition that is accepted: it means something else than a person perhaps thinks.
 
 use crate::rules::kinds::Kinds;
+use crate::rules::lists::{CLASSES, THROUGH};
 use crate::rules::parts::Parts;
-use crate::rules::words::{is, is_one_of};
-use cond_lang::Kind;
+use crate::rules::words::{depth_after, is, is_one_of};
 use std::alloc::{AllocError, Global};
 
 /// The note on tests joined by `and` and by `or` with no brackets that say which go together.
@@ -20,10 +20,7 @@ const UNNAMED: &str = ", so that it asks the same each time\n";
 /// # Errors
 /// `AllocError` if an allocation failed.
 pub fn slip(alloc: Global, condition: &[u8]) -> Result<Option<String>, AllocError> {
-    let can = Kinds {
-        holds: [false; Kind::COUNT],
-    };
-    let parts = Parts::of(alloc, condition, condition.len(), can)?;
+    let parts = Parts::of(alloc, condition, condition.len(), Kinds::none())?;
     for start in 1..parts.count() {
         if let Some(said) = unnamed(alloc, &parts, start)? {
             return Ok(Some(said));
@@ -39,7 +36,7 @@ pub fn slip(alloc: Global, condition: &[u8]) -> Result<Option<String>, AllocErro
 fn unnamed(alloc: Global, parts: &Parts, start: usize) -> Result<Option<String>, AllocError> {
     let open = start.saturating_add(2);
     let class = parts.at(start.saturating_add(1));
-    if !is_one_of(parts.at(start), "any every") || !is(parts.at(open), "(") {
+    if !is_one_of(parts.at(start), THROUGH) || !is(parts.at(open), "(") {
         return Ok(None);
     }
     if has_class(parts, open, class) {
@@ -70,15 +67,11 @@ fn unnamed(alloc: Global, parts: &Parts, start: usize) -> Result<Option<String>,
 /// Whether the class is named before the bracket that closes this one; `other` counts for a class
 /// of suits, whose suit it leaves out.
 fn has_class(parts: &Parts, open: usize, class: &[u8]) -> bool {
-    let other = is_one_of(class, "suit major minor other");
+    let other = is_one_of(class, CLASSES);
     let mut depth: usize = 0;
     for i in open..parts.count() {
         let part = parts.at(i);
-        if is(part, "(") {
-            depth = depth.saturating_add(1);
-        } else if is(part, ")") {
-            depth = depth.saturating_sub(1);
-        }
+        depth = depth_after(depth, part);
         if depth == 0 {
             return false;
         }

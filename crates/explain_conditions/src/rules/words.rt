@@ -9,32 +9,20 @@ pub(crate) fn is(part: &[u8], text: &str) -> bool {
 
 /// Whether the part reads as one of these texts, with a blank between them.
 pub(crate) fn is_one_of(part: &[u8], texts: &str) -> bool {
-    for text in texts.split(' ') {
-        if is(part, text) {
-            return true;
-        }
-    }
-    false
+    texts.split(' ').any(|text| is(part, text))
 }
 
 /// The token of a word of the language.
 pub(crate) fn token_of(part: &[u8]) -> Option<Token> {
-    for (word, token) in WORDS.iter() {
-        if is(part, word) {
-            return Some(*token);
-        }
-    }
-    None
+    let (_, token) = WORDS.iter().find(|(word, _)| is(part, word))?;
+    Some(*token)
 }
 
 /// The part as the word of a measure, of which a hand and a suit have a total.
 pub(crate) fn measure_word(part: &[u8]) -> Option<&'static str> {
-    for (word, token) in WORDS.iter() {
-        if matches!(token, Token::Measure(_)) && is(part, word) {
-            return Some(*word);
-        }
-    }
-    None
+    let (word, _) = WORDS.iter().find(|(word, token)| matches!(token, Token::Measure(_))
+        && is(part, word))?;
+    Some(*word)
 }
 
 /// Whether the part is the word of an order, of which a hand has a length.
@@ -82,12 +70,24 @@ pub(crate) fn is_name(part: &[u8]) -> bool {
 
 /// Whether the letters are ranks, whether or not one occurs twice.
 pub(crate) fn are_ranks(word: &[u8]) -> bool {
-    for letter in word {
-        if !matches!(letter, b'a' | b'k' | b'q' | b'j' | b't') {
-            return false;
-        }
+    word.iter().all(|letter| matches!(letter, b'a' | b'k' | b'q' | b'j' | b't'))
+}
+
+/// In how many brackets what comes after the part is.
+pub(crate) fn depth_after(depth: usize, part: &[u8]) -> usize {
+    if is(part, "(") {
+        depth.saturating_add(1)
+    } else if is(part, ")") {
+        depth.saturating_sub(1)
+    } else {
+        depth
     }
-    true
+}
+
+/// Whether the bytes are printable, with no comment among them, and at most so many.
+pub(crate) fn is_short_line(bytes: &[u8], most: usize) -> bool {
+    let is_plain = |byte: &u8| (32..127).contains(byte) && *byte != b'#';
+    bytes.len() <= most && bytes.iter().all(is_plain)
 }
 
 /// Whether the part may come in a value, outside of brackets.

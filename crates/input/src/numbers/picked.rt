@@ -5,16 +5,13 @@ ghost use Rattle.input.specs.Outcomes.{FaultsOf, InputFaultsOf, Picks};
 
 use crate::numbers::fault::PickFault;
 use crate::numbers::scanner::NumberScanner;
-use crate::source::{MOST_BYTES, Source};
+use crate::source::{MOST_TURNS, Source};
 use boards::{Notation, Plan, put_board};
 use cards::DealsByNumber;
 use sinks::{Sink, SinkFault, put_all};
 
 /// How many bytes are read at once.
 const PIECE: usize = 8192;
-
-/// No input gives a byte so often.
-const MOST_READS: u64 = MOST_BYTES + 1;
 
 /// What picks: the plan, the deals of its candidates, and what was read.
 #[derive(Drop)]
@@ -213,7 +210,7 @@ pub fn pick<N: Notation, I: Source, S: Sink>(
     }
     let mut picker = NumberPicker::new(plan);
     let mut piece = [0u8; PIECE];
-    for turn in 0..MOST_READS {
+    for turn in 0..MOST_TURNS {
         let boards = picker.scanner.numbers();
         sink.watch(boards, boards);
         let count = input.read(&mut piece)?;

@@ -12,7 +12,7 @@ use arrayvec::ArrayVec;
 use std::marker::Model;
 
 /// The most bytes of a line.
-pub(crate) const MOST_BYTES: usize = 4096;
+pub(crate) const LINE_BYTES: usize = 4096;
 
 /// Where in a line a reader is.
 #[derive(Clone, Copy, PartialEq, Eq)]

@@ -14,13 +14,10 @@ ghost use Rattle.input.specs.internal.TagTexts.{Reads};
 use crate::records::fault::RefusedRecord;
 use crate::records::game::Told;
 use crate::records::scanner::RecordScanner;
-use crate::{MOST_BYTES, Source, SourceFault};
+use crate::source::{MOST_TURNS, Source, SourceFault};
 
 /// How many bytes are read at once.
 const PIECE: usize = 32768;
-
-/// No input gives a byte so often.
-const MOST_READS: u64 = MOST_BYTES + 1;
 
 /// What comes next of an input.
 #[derive(Drop)]
@@ -185,7 +182,7 @@ impl BoardReader {
         ensures more { OnBoard (next_found result told.new) (self.old.taken < self.new.taken) }
         ensures faults { InputFaults result (I.faults input.old) (I.faults input.new) }
     {
-        for turn in 0..MOST_READS {
+        for turn in 0..MOST_TURNS {
             match self.take_piece(told) {
                 Ok(false) => {}
                 Ok(true) => return Ok(Found::Board),

@@ -12,7 +12,7 @@ ghost use Rattle.input.specs.internal.TagTexts.{IsStart, after_tag, with_place};
 use crate::records::fault::{RecordFault, RefusedRecord};
 use crate::records::game::{Game, Told};
 use crate::records::kind::{TagKind, kind_of};
-use crate::records::line::{LineStep, MOST_BYTES, RecordLine};
+use crate::records::line::{LINE_BYTES, LineStep, RecordLine};
 
 /// What was read of a text: where in a line it ends, how many lines there were before, what the
 /// game says so far, and the number of the last board, or 0.
@@ -179,7 +179,7 @@ impl Reading {
         ensures kept { result ≡ false → self.new ≡ self.old }
         ensures room { (n : ℕ) → InRoom self.old n → InRoom self.new n }
     {
-        if self.line.column() == MOST_BYTES || !self.line.is_free() {
+        if self.line.column() == LINE_BYTES || !self.line.is_free() {
             return false;
         }
         let _on = self.line.take(byte);
@@ -216,7 +216,7 @@ impl Reading {
         ensures tag { IfOk result (λ ended. byte ≢ 93 → ended ≡ false) }
         ensures room { (n : ℕ) → InRoom self.old n → OnOk result (InRoom self.new (n + 1)) }
     {
-        if self.line.column() == MOST_BYTES {
+        if self.line.column() == LINE_BYTES {
             return Err(self.refused(RecordFault::TooLong));
         }
         match self.line.take(byte) {

@@ -14,12 +14,9 @@ use crate::records::fault::RefusedRecord;
 use crate::records::game::Told;
 use crate::records::reader::{BoardReader, Found, Next, ReadFault};
 use crate::records::watched::next_watched;
-use crate::{MOST_BYTES, Source};
+use crate::source::{MOST_TURNS, Source};
 use boards::SolvedNotation;
 use sinks::{Sink, SinkFault, put_all};
-
-/// More games than any input has.
-const MOST_GAMES: u64 = MOST_BYTES + 1;
 
 /// Why showing ended before the end of the input.
 #[derive(Clone, Copy, Debug, PartialEq, Eq)]
@@ -111,7 +108,7 @@ fn show_rest<N: SolvedNotation, I: Source, S: Sink>(
 {
     let mut boards = written;
     let mut told = Told::any();
-    for turn in 0..MOST_GAMES {
+    for turn in 0..MOST_TURNS {
         match next_watched(reader, boards, input, sink, &mut told) {
             Ok(Found::Board) => {}
             Ok(Found::Last) => return put_last(&told, boards, notation, sink),

@@ -8,7 +8,7 @@ ghost use Rattle.input.specs.Places.{is_name_byte};
 ghost use Rattle.input.specs.internal.TagTexts.{IsTag, Opens, is_plain, tag_text};
 
 use crate::records::kind::{TagKind, kind_of};
-use crate::records::line::{MOST_BYTES, is_name_byte};
+use crate::records::line::{LINE_BYTES, is_name_byte};
 
 /// How many bytes a tag has beside its name and its value.
 pub(crate) const SIGNS: usize = 5;
@@ -194,7 +194,7 @@ pub(crate) fn tag_at(text: &[u8]) -> Option<Tag<'_>>
     let opening = opening_at(text)?;
     let (value, after) = opening.after.split_at(value_length(opening.after));
     let rest = after.strip_prefix(b"\"]")?;
-    if opening.name.len() + value.len() + SIGNS > MOST_BYTES {
+    if opening.name.len() + value.len() + SIGNS > LINE_BYTES {
         return None;
     }
     Some(Tag {

@@ -7,8 +7,8 @@ ghost use Rattle.input.specs.declared.tricks.line.LineEnd.TheVariants.{Feed, Las
 ghost use Rattle.input.specs.internal.Telling.{Advances, FailsWithin, GivesByte, ReadsLine, count_of};
 ghost use Rattle.input.specs.internal.TricksPicking.{FailsWithinText, FeedsOn, ReadsText};
 
+use crate::source::{MOST_TURNS, Source, SourceFault};
 use crate::tricks::word::is_blank;
-use crate::{MOST_BYTES, Source, SourceFault};
 use arrayvec::ArrayVec;
 
 /// The most bytes that are kept of a line. A line of tricks has 123 at most, and a CR.
@@ -146,7 +146,7 @@ pub(crate) fn read_text<I: Source>(
         (λ _. I.faults input.new ≡ I.faults input.old + 1) }
 {
     line.clear();
-    for turn in 0..MOST_BYTES + 1 {
+    for turn in 0..MOST_TURNS {
         match read_byte(input)? {
             None => return Ok(at_end(line.is_empty())),
             Some(b'\n') => return Ok(LineEnd::Feed),

@@ -8,18 +8,15 @@ ghost use Rattle.input.specs.internal.TricksPicking.{text_of};
 
 use crate::numbers::PickFault;
 use crate::refused_line::LineFault;
+use crate::source::{MOST_TURNS, Source};
 use crate::tricks::judge::judge;
 use crate::tricks::line::{LineEnd, TricksLine, read_text};
 use crate::tricks::teller::{put_board, put_end, refused, without_cr};
 use crate::tricks::word::{number_in, split_word};
-use crate::{MOST_BYTES, Source};
 use boards::{Board, Notation, Plan, Tricks, board_after};
 use cards::{DealsByNumber, MAX_CANDIDATES};
 use notations::AnyPrinter;
 use sinks::{Sink, put_all};
-
-/// No input has so many lines.
-const MOST_LINES: u64 = MOST_BYTES + 1;
 
 /// The most boards that are picked.
 const MOST_BOARDS: u64 = MAX_CANDIDATES;
@@ -172,7 +169,7 @@ pub fn pick<I: Source, S: Sink>(
     }
     let picker = TricksPicker::new(plan);
     let mut boards = 0u64;
-    for turn in 0..MOST_LINES {
+    for turn in 0..MOST_TURNS {
         sink.watch(boards, boards);
         match picker.pick_line(turn, boards, printer, input, sink) {
             Ok(step) if step.end.is_feed() => boards = step.boards,

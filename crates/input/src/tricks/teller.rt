@@ -15,16 +15,13 @@ ghost use Rattle.input.specs.internal.Telling.{judged};
 
 use crate::numbers::PickFault;
 use crate::refused_line::{LineFault, RefusedLine};
+use crate::source::{MOST_TURNS, Source};
 use crate::tricks::judge::judge;
 use crate::tricks::line::{LineEnd, TricksLine, read_line};
-use crate::{MOST_BYTES, Source};
 use boards::{Board, Notation, Plan, Tricks, board_after};
 use cards::{Deal, DealsByNumber};
 use notations::AnyPrinter;
 use sinks::{Sink, SinkFault, put_all};
-
-/// No input has so many lines.
-const MOST_LINES: u64 = MOST_BYTES + 1;
 
 /// Returns the line without a CR at its end.
 pub(crate) fn without_cr(line: &[u8]) -> &[u8]
@@ -158,7 +155,7 @@ fn pass_over<I: Source>(lines: u64, input: &mut I) -> Result<(), PickFault>
 {
     let mut line = TricksLine::new();
     let mut before = lines;
-    for turn in 0..MOST_LINES {
+    for turn in 0..MOST_TURNS {
         let Ok(end) = read_line(input, &mut line) else {
             return Err(PickFault::Input);
         };

@@ -22,9 +22,9 @@ pub fn millis(clock: &impl Clock) -> Option<u64> {
 /// A sink over a writer with a buffer, for a person who may watch. It tells the bytes that the
 /// writer tells and those in the buffer, and is flushed when the buffer is empty.
 ///
-/// When the run says how far it is, whatever was gathered for this many milliseconds is passed on;
-/// so is all that was gathered before counts are shown, and no board is missing that they count.
-/// They are wiped when the sink is flushed or fails.
+/// When the run says how far it is, bytes that were gathered for long enough are passed on. Before
+/// counts are shown all bytes are, so no board is missing that they count. The counts are wiped
+/// when the sink is flushed or fails.
 ///
 /// Any error of the writer is a fault, and so is a count of 0 for a piece that isn't empty. If
 /// passing on fails, the next `write` or `flush` is a fault.
