@@ -29,7 +29,7 @@ tell_version() {
     sed -n 's/^## \([0-9.]*\)$/\1/p' "$top/CHANGELOG.md" | head -n 1
 }
 
-# The time of all files: of the last commit, or of the date in the changelog where there is no repository.
+# The time of all files: of the last commit, or that of the changelog's file where there is no repository.
 find_epoch() {
     epoch=${SOURCE_DATE_EPOCH:-}
     if [ -z "$epoch" ]; then

@@ -14,7 +14,6 @@ class Counts {
 public:
     Counts();
 
-    bool is_shown() const { return is_terminal; }
     void draw(size_t boards, size_t kept);
     void wipe();
 

@@ -4,8 +4,10 @@ requests at once, runs that never end, and clients that never read."""
 import concurrent.futures
 import http.client
 import os
+import pathlib
 import random
 import socket
+import tempfile
 import time
 
 import harness
@@ -18,7 +20,7 @@ NIGHT = {"seed": "1", "boards": "2"}
 NASTY = [
     "--where=", "-", "--help", "$(touch {file})", "`touch {file}`", "; touch {file}", "| touch {file}", "' ; touch {file} ; '",
     "../../../../etc/passwd", "\0", "\r\nX-Set: 1", "<script>alert(1)</script>", "{{ 7*7 }}", "%s%n", "\ud7ff\u202e", "9" * 4000,
-    "((((((((((", "--format=json --where=1==1", '"', "\\", "\u0000--boards=9", "e\u0301" * 500,
+    "((((((((((", "--format=json --where=1==1", '"', "\\", "\u0000--boards=9", "e\u0301" * 500, "\u00b2",
 ]
 
 
@@ -71,6 +73,29 @@ def nasty_fields(desk):
             is_html = answer.headers.get("Content-Type", "").startswith("text/html")
             yield f"fields, {number}: {values}", is_page(answer) and not (is_html and "<script>alert" in answer.text)
         yield "no file was made", os.listdir(folder) == []
+
+
+def too_many_boards(desk):
+    """More boards than a page may have are refused, however their number is written."""
+    for text in ("129", "+200", "0200"):
+        answer = desk.get("/lesson", {"boards": text, "seed": "1"})
+        yield f"boards: {text}", answer.status == 422 and "at most 128 boards on a page" in answer.text
+    yield "boards: none", "say how many boards, 1 to 128" in desk.get("/lesson", {"boards": "", "seed": "1"}).text
+
+
+def ended_searches(desk):
+    """Searches that ended hold few descriptors, and none has a file with a name."""
+    before = set(pathlib.Path(tempfile.gettempdir()).iterdir())
+    form = {"seed": "1", "candidates": "1", "where": "1==1"}
+    statuses = set()
+    for _ in range(150):
+        statuses.add(desk.post("/search", form).status)
+        until(lambda: not desk.children())
+    yield f"searches: {statuses}", statuses == {303}
+    held = len(os.listdir(f"/proc/{desk.process.pid}/fd"))
+    yield f"they hold {held} descriptors", held < 150
+    left = [path.name for path in set(pathlib.Path(tempfile.gettempdir()).iterdir()) - before if "desk" in path.name]
+    yield f"files that are left: {left}", not left
 
 
 def nasty_bodies(desk):
@@ -150,5 +175,5 @@ def idle(desk):
 def refused():
     serving.need()
     with serving.desk("--limits") as desk:
-        for part in (foreign, nasty_fields, nasty_bodies, many, endless, idle):
+        for part in (foreign, nasty_fields, too_many_boards, nasty_bodies, many, endless, idle, ended_searches):
             yield from report.judged(part(desk))

@@ -218,6 +218,9 @@ def of_refusals():
         yield without_seed(command, more)
     yield Case("words: no text", ["make", b"\xff"], 2, err=b"")
     yield from of_tried_options()
+
+
+def of_refused_values():
     for more, line, advice in (
         (["--first", "1099511627776"], "plan refused: range", "--candidates 1: 0 to 0 from this --first on"),
         (["--first", "1099511627777"], "plan refused: range", "--first 1099511627777: 0 to 1099511627776"),
@@ -239,6 +242,9 @@ def of_refusals():
         said = f"{line}  {advice}\n".encode()
         yield Case(f"{line.strip()}, {more[0]}", asked(*more, *HINTS), 2, err=said, line=line.encode())
         yield Case(f"{line.strip()} alone, {more[0]}", asked(*more), 2, err=line.encode())
+
+
+def of_refused_conditions():
     at = "condition refused at byte "
     for text, line in (
         (" " * 1025, "condition refused: longer than 1024 bytes"),
@@ -312,4 +318,5 @@ def of_count():
 
 def every(is_all):
     chosen = [*of_texts(), *of_make(), *of_names(), *of_find(), *of_count(), *of_pick(), *of_show(), *of_tricks(), *of_refusals()]
+    chosen += [*of_refused_values(), *of_refused_conditions()]
     return [*chosen, *of_more()] if is_all else chosen

@@ -185,7 +185,7 @@ class Reader:
             self.end_game()
             return
         if text.startswith(b"%"):
-            self.too_long(line, text, len(text))
+            self.too_long(line, len(text))
             return
         at = 0
         if text.startswith(b"[") and not self.comment:
@@ -204,13 +204,13 @@ class Reader:
                 tag = TAG.match(text, at)
                 if tag is None:
                     raise Refused(line, self.fault_within(text, at))
-                self.too_long(line, text, tag.end())
+                self.too_long(line, tag.end())
                 self.take_tag(line, tag[1].decode("latin1"), tag[2].decode("latin1"))
                 at = tag.end()
             else:
                 self.skips = self.skips or text[at : at + 1] not in (b" ", b"\t")
                 at += 1
-            self.too_long(line, text, at)
+            self.too_long(line, at)
 
     @staticmethod
     def fault_within(text: bytes, at: int) -> str:
@@ -220,7 +220,7 @@ class Reader:
         return "longer than 4096 bytes" if len(text) > MOST_BYTES and begun else "not a tag"
 
     @staticmethod
-    def too_long(line: int, text: bytes, read: int) -> None:
+    def too_long(line: int, read: int) -> None:
         """Refuses a line of which more than its most bytes were read."""
         if read > MOST_BYTES:
             raise Refused(line, "longer than 4096 bytes")

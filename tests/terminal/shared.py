@@ -21,7 +21,7 @@ COUNTS = re.compile(r"(\d+%  )?[\d,]+ (of [\d,]+ )?candidates  [\d,]+ boards? .*
 DRAWN = b"\x1b[?7h"
 
 
-def pieces_of(terminal, process):
+def pieces_of(terminal):
     """What the terminal was given, cut after each line of counts."""
     text, is_open = b"", True
     while is_open:
@@ -44,7 +44,7 @@ def look(words, text):
     process = subprocess.Popen([harness.PROGRAM, *words], stdin=subprocess.DEVNULL, stdout=theirs, stderr=theirs)
     os.close(theirs)
     seen, is_behind_counts = screen.Screen(), False
-    for piece in pieces_of(ours, process):
+    for piece in pieces_of(ours):
         seen.feed(piece)
         lines = seen.lines()
         if piece.endswith(DRAWN):

@@ -2,6 +2,7 @@
 
 import argparse
 import os
+import signal
 import subprocess
 import sys
 from collections.abc import Sequence
@@ -41,9 +42,7 @@ def say(text: str) -> None:
 
 def text_of(path: str) -> str:
     """The script's text; bytes that are no UTF-8 may be in its comments."""
-    if path == "-":
-        return sys.stdin.buffer.read().decode("utf-8", "replace")
-    with open(path, "rb") as file:
+    with open(0 if path == "-" else path, "rb", closefd=path != "-") as file:
         return file.read().decode("utf-8", "replace")
 
 
@@ -66,6 +65,9 @@ def run(commands: Sequence[Command]) -> int:
 
 
 def main(words: Sequence[str] | None = None) -> int:
+    # Ctrl-C ends it as it ends other programs, unless it was told to ignore it.
+    if signal.getsignal(signal.SIGINT) is signal.default_int_handler:
+        signal.signal(signal.SIGINT, signal.SIG_DFL)
     asked = parser().parse_args(words)
     try:
         text = text_of(asked.script)
@@ -85,9 +87,9 @@ def main(words: Sequence[str] | None = None) -> int:
     if asked.run:
         return run(commands)
     try:
-        print("".join(f"{command.line()}\n" for command in commands), end="", flush=True)
+        with open(1, "w", encoding="utf-8", errors="surrogateescape", closefd=False) as output:
+            output.write("".join(f"{command.line()}\n" for command in commands))
     except OSError as error:
-        os.dup2(os.open(os.devnull, os.O_WRONLY), sys.stdout.fileno())
         if not isinstance(error, BrokenPipeError):
             say(f"the output failed: {error.strerror}")
         return OUTPUT

@@ -11,7 +11,7 @@ from .tree import SUITS, Action, Place, Refusal, Script
 
 LONGEST = 1024
 MOST_BOARDS = 4294967295
-# What dealer takes where a script doesn't say.
+# What dealer's manual says; dealer 20211121 tries ten million deals, and counts all that meet the condition.
 GENERATE, PRODUCE, PRODUCE_COUNTED = 1_000_000, 40, 100_000
 SEED = 1
 ORDER = "AKQJT98765432"

@@ -11,10 +11,9 @@ import operator
 from collections.abc import Callable, Iterator, Mapping
 
 from .formulas import Always, Formula, Test, all_of, any_of, named, negated
-from .names import written
+from .names import RANKS, written
 from .tree import Binary, Chosen, Count, Expression, HasCard, Named, Number, Place, Refusal, Shape, Unary
 
-RANKS = "akqjt"
 # What the words of dealer count: the weights of ace, king, queen, jack and ten.
 WEIGHTS = {
     "hcp": (4, 3, 2, 1, 0), "tens": (0, 0, 0, 0, 1), "jacks": (0, 0, 0, 1, 0), "queens": (0, 0, 1, 0, 0),

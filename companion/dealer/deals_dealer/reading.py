@@ -21,6 +21,10 @@ LETTERS = dict(zip("SHDC", SUITS))
 VULNERABLE = {"none": "None", "ns": "NS", "ew": "EW", "all": "All"}
 # The ten counts that `altcount` can set, by their usual names.
 ALTERNATIVES = ("tens", "jacks", "queens", "kings", "aces", "top2", "top3", "top4", "top5", "c13")
+# The most that `deals` takes: of boards and of a seed, and of candidates.
+MOST, MOST_GENERATE = 4294967295, 1 << 40
+# The parts of all expressions, with what their names stand for: names within names may double them with each line.
+MOST_PARTS = 10_000
 # Words of dealer that `deals` has nothing for.
 UNKNOWN = {
     "cccc": "no evaluation by cccc: count points, controls or losers",
@@ -58,8 +62,16 @@ def count_of(token: Token) -> str:
 
 
 def signed_of(tree: Tree[Token]) -> int:
-    value = int(str(tree.children[0]))
+    value = number_of(cast(Token, tree.children[0]), MOST)
     return -value if tree.data == "minus" else value
+
+
+def number_of(token: Token, most: int) -> int:
+    """A number; Python refuses to read one of very many digits."""
+    digits = str(token).lstrip("0") or "0"
+    if len(digits) > len(str(most)) or int(digits) > most:
+        raise Refusal(place(token), f"expected a number of at most {most}")
+    return int(digits)
 
 
 class Reader:
@@ -68,12 +80,15 @@ class Reader:
     def __init__(self) -> None:
         self.script = Script()
         self.names: dict[str, Expression] = {}
+        # How many parts were read, and how many each name stands for.
+        self.parts, self.sizes = 0, dict[str, int]()
 
     def expression(self, node: Any) -> Expression:
         at = place(node)
+        self.parts += 1
         kind, parts = str(node.data), node.children
         if kind == "number":
-            return Number(place(parts[0]), int(parts[0]))
+            return Number(place(parts[0]), number_of(parts[0], MOST))
         if kind == "name":
             return self.named(parts[0])
         if kind in SIGNS:
@@ -103,6 +118,9 @@ class Reader:
     def named(self, token: Token) -> Expression:
         if str(token) not in self.names:
             raise Refusal(place(token), f"unknown name {token}: define it before it is used, as {token} = hcp(north)>=15")
+        self.parts += self.sizes[str(token)]
+        if self.parts > MOST_PARTS:
+            raise Refusal(place(token), f"with what {token} stands for the script has more than {MOST_PARTS} parts")
         return Named(place(token), str(token), self.names[str(token)])
 
     def item(self, tree: Tree[Token]) -> None:
@@ -110,17 +128,19 @@ class Reader:
         kind, parts = str(tree.data), cast(list[Any], tree.children)
         script = self.script
         if kind == "generate":
-            script.generate = int(parts[0])
+            script.generate = number_of(parts[0], MOST_GENERATE)
         elif kind == "produce":
-            script.produce = int(parts[0])
+            script.produce = number_of(parts[0], MOST)
         elif kind == "seed":
-            script.seed = int(parts[0])
+            script.seed = number_of(parts[0], MOST)
         elif kind == "dealer":
             script.dealer = seat_of(parts[0])
         elif kind == "vulnerable":
             script.vulnerable = VULNERABLE[str(parts[0]).lower()]
         elif kind == "definition":
+            before = self.parts
             self.names[str(parts[0])] = self.expression(parts[1])
+            self.sizes[str(parts[0])] = self.parts - before
         elif kind == "condition":
             script.condition = self.expression(parts[0])
         elif kind == "actions":
@@ -144,7 +164,7 @@ class Reader:
         parts = cast(list[Any], tree.children)
         if tree.data == "length":
             count = Count(place(parts[0]), "len", seat_of(parts[1]), suit_of(parts[0]))
-            self.script.lengths.append(Binary(place(parts[0]), "==", count, Number(place(parts[2]), int(parts[2]))))
+            self.script.lengths.append(Binary(place(parts[0]), "==", count, Number(place(parts[2]), number_of(parts[2], MOST))))
             return
         held = self.script.cards.setdefault(seat_of(parts[0]), {})
         for holding in parts[1:]:
@@ -161,9 +181,10 @@ class Reader:
 
 
 def alternative(token: Token) -> str:
-    if int(token) >= len(ALTERNATIVES):
+    number = str(token).lstrip("0") or "0"
+    if len(number) > 1:
         raise Refusal(place(token), "altcount has a number from 0 to 9")
-    return ALTERNATIVES[int(token)]
+    return ALTERNATIVES[int(number)]
 
 
 def shapes_of(tree: Tree[Any]) -> list[tuple[str, bool, str]]:

@@ -50,9 +50,14 @@ def parser() -> argparse.ArgumentParser:
     return parse
 
 
+def in_address(host: str) -> str:
+    """A host as an address has it: IPv6 is in brackets."""
+    return f"[{host}]" if ":" in host else host
+
+
 def hosts(address: str, number: int, names: Sequence[str]) -> frozenset[str]:
     """What browsers may call this server."""
-    own = [HERE, "localhost", "[::1]"] if address in (HERE, "::1", "localhost") else [address]
+    own = [HERE, "localhost", "[::1]"] if address in (HERE, "::1", "localhost") else [in_address(address)]
     return frozenset([*(f"{name}:{number}" for name in [*own, *names]), *names, *(own if number == 80 else [])])
 
 
@@ -87,7 +92,7 @@ def serve(asked: argparse.Namespace, runner: Runner) -> int:
     except OSError as error:
         say(
             f"can't listen at {asked.listen}, port {asked.port}: {error.strerror}\n"
-            f"  is the page open already, at http://{asked.listen}:{asked.port}/? else try another by --port"
+            f"  is the page open already, at http://{in_address(asked.listen)}:{asked.port}/? else try another by --port"
         )
         return UNABLE
     number = listening.getsockname()[1]
@@ -96,8 +101,7 @@ def serve(asked: argparse.Namespace, runner: Runner) -> int:
         app, sockets=[listening], threads=THREADS, ident=None, channel_request_lookahead=1, channel_timeout=60,
         connection_limit=200, max_request_body_size=limits.BODY, clear_untrusted_proxy_headers=True,
     )
-    shown = f"[{asked.listen}]" if ":" in asked.listen else asked.listen
-    address = f"http://{shown}:{number}/"
+    address = f"http://{in_address(asked.listen)}:{number}/"
     say(f"the page is at {address} until you end it with Ctrl-C")
     if not asked.no_browser:
         threading.Thread(target=open_browser, args=[address], daemon=True).start()

@@ -43,10 +43,18 @@ class Refused(Exception):
         self.answer = answer
 
 
+def number(text: str) -> int:
+    """The number of a text, also where it has a sign; 0 for what is none, which `deals` refuses."""
+    try:
+        return int(text)
+    except ValueError:
+        return 0
+
+
 def bounded(form: words.Form, page: str) -> None:
     """Refuses more boards than a page may have, which `deals` itself would write, and what is empty and may not be."""
     most = desk().runner.limits.boards
-    if form.get("boards", "").isdigit() and int(form["boards"]) > most:
+    if number(form.get("boards", "")) > most:
         raise Refused(answers.Answer("boards", f"at most {most} boards on a page", ""))
     for name, needed in fields.NEEDED[page].items():
         if not form[name]:

@@ -3,6 +3,9 @@
 import dataclasses
 import enum
 
+# Beyond this many characters a field is cut, since no option takes more.
+LONGEST = 4096
+
 
 class Kind(enum.Enum):
     """How a field is drawn."""

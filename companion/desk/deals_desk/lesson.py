@@ -34,7 +34,7 @@ def accepted(form: dict[str, str]) -> Ended:
 def lesson() -> Response:
     form = asked()
     answer, noted = None, ""
-    is_asked = bool(request.args.get("boards"))
+    is_asked = "boards" in request.args
     if is_asked:
         try:
             noted = note(accepted(form).said)

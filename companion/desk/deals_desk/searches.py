@@ -1,6 +1,7 @@
 """Long searches: they go on while a page asks for them, and keep the numbers that they found."""
 
 import dataclasses
+import os
 import re
 import secrets
 import signal
@@ -8,6 +9,7 @@ import subprocess
 import tempfile
 import threading
 import time
+from typing import IO
 
 from .runs import ENVIRONMENT, MOST_SAID, Busy, Runner
 from .words import Command, Form
@@ -24,7 +26,7 @@ class Search:
     form: dict[str, str]
     command: Command
     process: subprocess.Popen[bytes]
-    said: tempfile._TemporaryFileWrapper  # type: ignore[type-arg]
+    said: IO[bytes]
     began: float
     asked: float
     numbers: list[int] = dataclasses.field(default_factory=list)
@@ -40,9 +42,9 @@ class Search:
         return self.status is None
 
     def lines(self) -> str:
-        with open(self.said.name, "rb") as file:
-            file.seek(max(0, file.seek(0, 2) - MOST_SAID))
-            return file.read().decode("utf-8", "replace").replace("\r", "\n")
+        """The last of what it said. The program writes on in the same file, so its place there isn't moved."""
+        begin = max(0, os.fstat(self.said.fileno()).st_size - MOST_SAID)
+        return os.pread(self.said.fileno(), MOST_SAID, begin).decode("utf-8", "replace").replace("\r", "\n")
 
     def progress(self) -> str:
         """The last line of progress."""
@@ -77,6 +79,7 @@ class Search:
                 self.numbers.append(int(line))
             if len(self.numbers) >= MOST_FOUND:
                 self.stop()
+        self.process.stdout.close()
         self.process.wait()
         self.ended = time.monotonic()
 
@@ -89,6 +92,8 @@ class Searches:
     """The searches of all pages. One that no page asks for ends, and is forgotten some time later."""
 
     FORGET = 3600.0
+    # So many that have ended are kept, of those that were asked for last.
+    KEPT = 100
 
     def __init__(self, runner: Runner) -> None:
         self.runner = runner
@@ -102,7 +107,7 @@ class Searches:
         with self.lock:
             if sum(search.is_running for search in self.all.values()) >= self.runner.limits.searches:
                 raise Busy
-            said = tempfile.NamedTemporaryFile(prefix="deals-desk-")
+            said = tempfile.TemporaryFile()
             (name, *words), *_ = command.steps
             process = subprocess.Popen(
                 [self.runner.programs[name], *words, "--progress=always"],
@@ -112,6 +117,7 @@ class Searches:
             search = Search(dict(form), command, process, said, now, now)
             key = secrets.token_urlsafe(12)
             self.all[key] = search
+            self.forget()
         threading.Thread(target=search.collect, daemon=True).start()
         return key
 
@@ -122,6 +128,12 @@ class Searches:
             search.asked = time.monotonic()
         return search
 
+    def forget(self) -> None:
+        """Forgets those that ended, the ones that nobody asked for the longest time first, where there are too many."""
+        ended = sorted((search.asked, key) for key, search in self.all.items() if search.ended)
+        for _, key in ended[: -self.KEPT]:
+            del self.all[key]
+
     def look(self) -> None:
         """Ends what nobody asks for, or what took too long; forgets what ended long ago."""
         now = time.monotonic()
@@ -131,8 +143,7 @@ class Searches:
                 search.stop()
             elif search.ended and now - max(search.ended, search.asked) > self.FORGET:
                 with self.lock:
-                    del self.all[key]
-                search.said.close()
+                    self.all.pop(key, None)
 
     def watch(self) -> None:
         while True:

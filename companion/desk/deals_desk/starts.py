@@ -27,12 +27,12 @@ class Group:
 
 
 def told(program: str, *words: str) -> str:
-    """What the program tells of lessons; nothing, where it can't."""
+    """What the program tells of lessons; LookupError, where it can't."""
     command = [program, "lessons", *words]
     try:
         return subprocess.run(command, capture_output=True, text=True, check=True, timeout=SECONDS).stdout
-    except (OSError, subprocess.SubprocessError):
-        return ""
+    except (OSError, subprocess.SubprocessError) as error:
+        raise LookupError("no lessons") from error
 
 
 def lesson_of(program: str, line: str) -> Lesson:
@@ -50,7 +50,15 @@ def group_of(program: str, part: str) -> Group:
 
 
 @functools.cache
-def groups(program: str) -> tuple[Group, ...]:
+def known(program: str) -> tuple[Group, ...]:
     """The groups of this program's lessons. The list has an empty line after each, and a last line of advice."""
     *parts, _ = told(program).split("\n\n")
     return tuple(group_of(program, part) for part in parts)
+
+
+def groups(program: str) -> tuple[Group, ...]:
+    """The groups, or none where the program can't tell them; it is asked again then."""
+    try:
+        return known(program)
+    except LookupError:
+        return ()

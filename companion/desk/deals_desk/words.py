@@ -9,8 +9,6 @@ from . import fields
 DEALS = "deals"
 TRICKS = "deals-tricks"
 HINTS = "--hints=always"
-# Beyond this many characters a field is cut, since no option takes more.
-LONGEST = 4096
 
 Form = Mapping[str, str]
 
@@ -41,7 +39,7 @@ def asked_for(names: Iterable[str], given: Form, page: str) -> dict[str, str]:
 
 def cleaned(value: str) -> str:
     """A value without blanks around it, with line feeds alone, and with no byte that a word can't have."""
-    return value.replace("\r\n", "\n").replace("\0", "\ufffd").strip()[:LONGEST]
+    return value.replace("\r\n", "\n").replace("\0", "\ufffd").strip()[: fields.LONGEST]
 
 
 def word(option: str, value: str) -> str:

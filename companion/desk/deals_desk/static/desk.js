@@ -121,6 +121,8 @@ function watchText(area) {
     const text = area.value;
     const answer = await check(text).catch(() => undefined);
     if (answer === undefined || text !== area.value) return;
+    // Places are told in the text without the blanks before it.
+    if (answer && answer.at >= 0) answer.at += text.length - text.trimStart().length;
     show(area, answer);
     clearTimeout(resting);
     if (!line) return;

@@ -1,5 +1,5 @@
 -- How the boards look: options of their format, and of what is written of them.
-use Rattle.std.specs.Prelude.{true, ◌&&◌, ◌||◌, Bool, not, List, [], ◌∷◌, codes, is_some, unwrap_or}
+use Rattle.std.specs.Prelude.{true, false, ◌&&◌, ◌||◌, Bool, not, List, [], ◌∷◌, codes, is_some, unwrap_or}
 use Rattle.clap.specs.Words.{Row, Rule, Text, first_of}
 use Rattle.clap.specs.declared.builder.value_parser.ValueParser.TheVariants as parsed
 use Rattle.boards.specs.Formats.{formats}
