@@ -42,12 +42,12 @@ class Night:
         self.folder = pathlib.Path(folder)
         self.programs = stand_ins(self.folder)
 
-    def run(self, *words, at=0, how="", without=()):
-        """The script's status, and what it said; `at` is the call that goes wrong."""
+    def run(self, *words, at=0, how="", without=(), **more):
+        """The script's status, and what it said; `at` is the call that goes wrong, `more` is in its environment."""
         counts = self.folder / "counts"
         counts.unlink(missing_ok=True)
         path = f"{self.programs}:/usr/bin:/bin"
-        settings = {"PATH": path, "COUNTS": str(counts), "AT": str(at), "HOW": how}
+        settings = {"PATH": path, "COUNTS": str(counts), "AT": str(at), "HOW": how, **more}
         for name in without:
             (self.programs / name).rename(self.folder / name)
         try:
@@ -149,7 +149,18 @@ def without():
         yield "without the solver", status == 0 and is_plain and "deals-tricks isn't installed" in said
 
 
+def elsewhere():
+    """The files are in the folder that is named, whatever its name is and wherever else there is one of this name."""
+    with harness.scratch() as folder:
+        night = Night(folder)
+        (night.folder / "others" / "night").mkdir(parents=True)
+        status, _ = night.run(*WORDS, CDPATH=str(night.folder / "others"))
+        yield "CDPATH", status == 0 and night.is_right() and not list((night.folder / "others" / "night").iterdir())
+        status, _ = night.run(WORDS[0], WORDS[1], "-n")
+        yield "a hyphen in front", status == 0 and (night.folder / "-n" / "night.pbn").exists()
+
+
 def nights():
     os.umask(0o022)
-    for part in (made, letters, stopped, without):
+    for part in (made, letters, stopped, without, elsewhere):
         yield from report.judged(part())

@@ -181,6 +181,9 @@ def known(_):
                 run = subprocess.run([*words, *options], **settings)
                 right = run.returncode == 0 if said is None else run.returncode == 2 and said in run.stderr
                 yield f"{script.name}, {options}", None if right and contents(folder) == found else str(run)
+            run = subprocess.run(["sh", str(script), "-n", *numbers, *SEED], cwd=folder, **settings)
+            right = run.returncode == 0 and (pathlib.Path(folder) / "-n").exists()
+            yield f"{script.name}, a hyphen in front", None if right else str(run)
 
 
 def stopped(deals):
