@@ -265,6 +265,9 @@ def mistake(window, desk):
     yield "it is mended", window.find("[name=where]").get_attribute("value") == "hcp(north) in 15-17"
     window.until(lambda: "One deal in" in window.find("[data-rarity]").text, "how rare they are")
     yield "nothing is refused", not window.all(".refusal")
+    window.write("where", "  hcp(west)>=9 and hcp(nord)>=9")
+    window.until(lambda: window.find(".refusal .mend").is_displayed(), "the refusal after blanks")
+    yield "a fault after blanks is marked", window.find(".marks mark").get_attribute("textContent") == "nord"
     window.write("where", "hcp(north)>=20 and hcp(south)>=9 or hcp(east)>=20")
     window.until(lambda: "and" in window.find(".note").text, "the note")
     yield "a slip is noted", not window.all(".refusal")
