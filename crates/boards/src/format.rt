@@ -4,6 +4,7 @@ ghost use Rattle.std.specs.Prelude.{◌≡◌};
 ghost use Rattle.boards.specs.Formats.{numbers_boards};
 
 use crate::words;
+use crate::words::Words;
 
 /// A notation, as it is asked for by its name.
 #[derive(Clone, Copy)]
@@ -26,15 +27,16 @@ pub enum Format {
     Numbers,
 }
 
-words! { Format:
-    "pbn" => Pbn,
-    "hands" => Hands,
-    "lin" => Lin,
-    "html" => Html,
-    "sheet" => Sheet,
-    "slips" => Slips,
-    "json" => Json,
-}
+/// The formats that boards are asked for in.
+pub const FORMATS: Words<Format> = words! {
+    "pbn" => Format::Pbn,
+    "hands" => Format::Hands,
+    "lin" => Format::Lin,
+    "html" => Format::Html,
+    "sheet" => Format::Sheet,
+    "slips" => Format::Slips,
+    "json" => Format::Json
+};
 
 /// What help says of the option that takes one of them: its name, a value and a text, whose lines
 /// have at most 53 columns.

@@ -5,6 +5,7 @@ ghost use Rattle.boards.specs.Show.{counted_in, hand_in, is_same, shows};
 
 use crate::board::Board;
 use crate::words;
+use crate::words::Words;
 use cards::{Hand, Seat};
 
 /// The hands that are written of a board, as they are asked for by a word.
@@ -21,16 +22,17 @@ pub enum Seats {
     EastWest,
 }
 
-words! { Seats:
-    "all" => All,
-    "dealer" => Dealer,
-    "north" => North,
-    "east" => East,
-    "south" => South,
-    "west" => West,
-    "ns" => NorthSouth,
-    "ew" => EastWest,
-}
+/// The words that ask for hands.
+pub const SHOWS: Words<Seats> = words! {
+    "all" => Seats::All,
+    "dealer" => Seats::Dealer,
+    "north" => Seats::North,
+    "east" => Seats::East,
+    "south" => Seats::South,
+    "west" => Seats::West,
+    "ns" => Seats::NorthSouth,
+    "ew" => Seats::EastWest
+};
 
 /// What is written of a board.
 #[derive(Clone, Copy)]

@@ -1,6 +1,7 @@
 //! How a table is written.
 
 use crate::words;
+use crate::words::Words;
 
 /// How a table is written.
 #[derive(Clone, Copy)]
@@ -15,9 +16,10 @@ pub enum TableStyle {
     Json,
 }
 
-words! { TableStyle:
-    "table" => Table,
-    "csv" => Csv,
-    "html" => Html,
-    "json" => Json,
-}
+/// The words that ask for styles.
+pub const STYLES: Words<TableStyle> = words! {
+    "table" => TableStyle::Table,
+    "csv" => TableStyle::Csv,
+    "html" => TableStyle::Html,
+    "json" => TableStyle::Json
+};

@@ -1,16 +1,20 @@
 //! Values that are asked for by a word.
 
-/// The words that ask for a type's values: a table, and a text that lists them.
+/// The words that ask for a type's values.
+pub struct Words<T: Copy + 'static> {
+    /// Each word, with what it asks for.
+    pub table: &'static [(&'static str, T)],
+    /// The words, as help lists them.
+    pub list: &'static str,
+}
+
+/// Words, each with what it asks for.
 #[macro_export]
 macro_rules! words {
-    ($kind:ident: $first:literal => $first_value:ident, $($word:literal => $value:ident,)*) => {
-        impl $kind {
-            /// The words that ask for them, each with what it asks for.
-            pub const NAMED: &'static [(&'static str, $kind)] =
-                &[($first, $kind::$first_value), $(($word, $kind::$value)),*];
-
-            /// These words, as help lists them.
-            pub const WORDS: &'static str = concat!($first $(, ", ", $word)*);
+    ($first:literal => $value:expr $(, $word:literal => $other:expr)*) => {
+        Words {
+            table: &[($first, $value) $(, ($word, $other))*],
+            list: concat!($first $(, ", ", $word)*),
         }
     };
 }

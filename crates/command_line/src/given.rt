@@ -10,6 +10,7 @@ ghost use Rattle.command_line.specs.Given.{choice_in, is_set, is_unknown, meant_
 ghost use Rattle.command_line.specs.internal.Choices.{table_of};
 ghost use Rattle.command_line.specs.internal.Readings.{MayGive32, MayGive64};
 
+use boards::Words;
 use clap::ArgMatches;
 
 /// What an option of 32 bits was given.
@@ -48,9 +49,7 @@ pub(crate) fn is_set(matches: &ArgMatches, id: &str) -> bool
 /// An option that has one of a few words.
 pub struct OptionWords<T: Copy + 'static> {
     pub(crate) id: &'static str,
-    /// Its values, as help lists them.
-    pub(crate) values: &'static str,
-    pub(crate) table: &'static [(&'static str, T)],
+    pub(crate) words: Words<T>,
 }
 
 /// A word that is none of its option's values.
@@ -62,26 +61,6 @@ pub struct Unknown<'a> {
     /// The option's values, as help lists them.
     pub values: &'static str,
 }
-
-/// An option with its words: those of a type, or words with what each means.
-macro_rules! choice {
-    ($id:literal $kind:ident) => {
-        OptionWords {
-            id: $id,
-            values: $kind::WORDS,
-            table: $kind::NAMED,
-        }
-    };
-    ($id:literal $first:literal => $meaning:expr $(, $word:literal => $other:expr)*) => {
-        OptionWords {
-            id: $id,
-            values: concat!($first $(, ", ", $word)*),
-            table: &[($first, $meaning) $(, ($word, $other))*],
-        }
-    };
-}
-
-pub(crate) use choice;
 
 /// What a word means in such a table.
 pub(crate) fn look_up<T: Copy>(mut table: &[(&str, T)], word: &str) -> Option<T>
@@ -103,7 +82,7 @@ impl<T: Copy + 'static> OptionWords<T> {
             ≡ choice_in (table_of self.now) self.now.id.now (rows_of (found_of matches.now)) }
     {
         match text_in(matches, self.id) {
-            Some(word) => look_up(self.table, word),
+            Some(word) => look_up(self.words.table, word),
             None => None,
         }
     }
@@ -114,10 +93,10 @@ impl<T: Copy + 'static> OptionWords<T> {
             ≡ is_unknown (table_of self.now) self.now.id.now (rows_of (found_of matches.now)) }
     {
         match text_in(matches, self.id) {
-            Some(word) if look_up(self.table, word).is_none() => Some(Unknown {
+            Some(word) if look_up(self.words.table, word).is_none() => Some(Unknown {
                 word,
                 id: self.id,
-                values: self.values,
+                values: self.words.list,
             }),
             _ => None,
         }

@@ -1,6 +1,6 @@
 //! Words that were not read: when hints are said of them, and what helps if one isn't UTF-8.
 
-use requests::When;
+use requests::{TIMES, When};
 use sinks::put_shown;
 use std::alloc::Global;
 
@@ -24,7 +24,7 @@ pub fn hints_among(words: &[String]) -> When {
 }
 
 fn when_of(word: &str) -> Option<When> {
-    let (_, when) = When::NAMED.iter().find(|(named, _)| *named == word)?;
+    let (_, when) = TIMES.table.iter().find(|(named, _)| *named == word)?;
     Some(*when)
 }
 

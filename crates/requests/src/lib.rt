@@ -32,5 +32,5 @@ pub use names::{LabelName, QuestionName};
 pub use questions::{MAX_QUESTIONS, Questions, Texts};
 pub use request::{Notices, Request, StreamRequest};
 pub use search::Search;
-pub use when::When;
+pub use when::{TIMES, When};
 pub use workers::Workers;

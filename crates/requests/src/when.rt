@@ -1,6 +1,6 @@
 //! When a person is shown what programs don't read.
 
-use boards::words;
+use boards::{Words, words};
 
 /// When something is shown on the error output that is meant for a person: a run's counts while it
 /// lasts, or what helps below a refusal. Nothing else depends on it.
@@ -12,8 +12,9 @@ pub enum When {
     Never,
 }
 
-words! { When:
-    "auto" => Auto,
-    "always" => Always,
-    "never" => Never,
-}
+/// The words that say when.
+pub const TIMES: Words<When> = words! {
+    "auto" => When::Auto,
+    "always" => When::Always,
+    "never" => When::Never
+};

@@ -5,4 +5,4 @@ use Rattle.command_line.specs.declared.given.OptionWords.{OptionWords}
 
 -- what each word means
 abbrev pub table_of : {A : Type 0} → OptionWords A → List (Text × A)
-table_of choice = map (λ p. (p.0.now, p.1)) choice.table.now
+table_of choice = map (λ p. (p.0.now, p.1)) choice.words.table.now

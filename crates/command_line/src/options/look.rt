@@ -7,10 +7,10 @@ ghost use Rattle.command_line.specs.options.Look.{has_unknown_look, is_turned, l
 ghost use Rattle.command_line.specs.options.Look.{show_in, shown_look};
 ghost use Rattle.requests.specs.Requests.{look_of};
 
-use crate::given::{OptionWords, Unknown, choice, is_set, text_in, u64_in};
+use crate::given::{OptionWords, Unknown, is_set, text_in, u64_in};
 use crate::helps::Section;
 use crate::rows::{OptionRow, Takes, optional};
-use boards::{FORMAT_HELP, Seats, Show, Vul};
+use boards::{FORMAT_HELP, FORMATS, SHOWS, Seats, Show, Vul, Words, words};
 use cards::Seat;
 use clap::ArgMatches;
 use requests::{Format, Look};
@@ -103,18 +103,33 @@ board]",
     },
 ];
 
-pub(crate) static FORMAT: OptionWords<Format> = choice! { "format" Format };
-
-static SHOW: OptionWords<Seats> = choice! { "show" Seats };
-
-static POINTS: OptionWords<bool> = choice! { "points" "show" => true, "hide" => false };
-
-static DEALER: OptionWords<Seat> = choice! { "dealer"
-    "N" => Seat::North, "E" => Seat::East, "S" => Seat::South, "W" => Seat::West
+pub(crate) static FORMAT: OptionWords<Format> = OptionWords {
+    id: "format",
+    words: FORMATS,
 };
 
-static VULNERABLE: OptionWords<Vul> = choice! { "vulnerable"
-    "None" => Vul::Neither, "NS" => Vul::NorthSouth, "EW" => Vul::EastWest, "All" => Vul::Both
+static SHOW: OptionWords<Seats> = OptionWords {
+    id: "show",
+    words: SHOWS,
+};
+
+static POINTS: OptionWords<bool> = OptionWords {
+    id: "points",
+    words: words! { "show" => true, "hide" => false },
+};
+
+static DEALER: OptionWords<Seat> = OptionWords {
+    id: "dealer",
+    words: words! {
+        "N" => Seat::North, "E" => Seat::East, "S" => Seat::South, "W" => Seat::West
+    },
+};
+
+static VULNERABLE: OptionWords<Vul> = OptionWords {
+    id: "vulnerable",
+    words: words! {
+        "None" => Vul::Neither, "NS" => Vul::NorthSouth, "EW" => Vul::EastWest, "All" => Vul::Both
+    },
 };
 
 /// The first word given to one of these options that is none of its own; the format is looked at by

@@ -4,11 +4,11 @@ ghost use Rattle.std.specs.Prelude.{◌≡◌, codes, is_some};
 ghost use Rattle.clap.specs.Words.{found_of, rows_of};
 ghost use Rattle.command_line.specs.options.Notices.{has_unknown_time, notices_in, when_in};
 
-use crate::given::{OptionWords, Unknown, choice, is_set};
+use crate::given::{OptionWords, Unknown, is_set};
 use crate::helps::Section;
 use crate::rows::{OptionRow, Takes, optional};
 use clap::ArgMatches;
-use requests::{Notices, When};
+use requests::{Notices, TIMES, When};
 
 pub(crate) const REPORT_ROWS: &[OptionRow] = &[optional! { "report" Takes::Nothing }];
 
@@ -50,9 +50,15 @@ terminal [default: auto]
     },
 ];
 
-static PROGRESS: OptionWords<When> = choice! { "progress" When };
+static PROGRESS: OptionWords<When> = OptionWords {
+    id: "progress",
+    words: TIMES,
+};
 
-static HINTS: OptionWords<When> = choice! { "hints" When };
+static HINTS: OptionWords<When> = OptionWords {
+    id: "hints",
+    words: TIMES,
+};
 
 /// The first word given to one of these options that is none of its own.
 pub(crate) fn unknown_in<'a>(matches: &ArgMatches<'a>) -> Option<Unknown<'a>>

@@ -6,10 +6,11 @@ ghost use Rattle.command_line.specs.options.Questions.{has_by_alone, has_extra, 
 ghost use Rattle.command_line.specs.options.Questions.{questions_from, questions_in, style_in};
 ghost use Rattle.requests.specs.Requests.{questions_of};
 
-use crate::given::{OptionWords, choice, text_in};
+use crate::given::{OptionWords, text_in};
 use crate::helps::Section;
 use crate::refusals::{COLUMNS_OF_SEVERAL, TOO_MANY};
 use crate::rows::{OptionRow, Takes, optional};
+use boards::STYLES;
 use clap::ArgMatches;
 use requests::{MAX_QUESTIONS, Questions, TableStyle, Texts};
 
@@ -42,7 +43,10 @@ spreadsheets, html for a page, json for programs
 ];
 
 /// The format of `count`.
-pub(crate) static STYLE: OptionWords<TableStyle> = choice! { "format" TableStyle };
+pub(crate) static STYLE: OptionWords<TableStyle> = OptionWords {
+    id: "format",
+    words: STYLES,
+};
 
 /// How the table is written.
 pub(crate) fn style_in(matches: &ArgMatches) -> TableStyle

@@ -2,7 +2,7 @@
 
 use crate::words::joined;
 use crate::words::table::{find, find_small};
-use boards::Format;
+use boards::FORMATS;
 use std::alloc::Global;
 
 const AFTER_OPTIONS: &str = "each value comes after its option, as --seed 7 --boards 36";
@@ -132,7 +132,7 @@ pub(crate) fn filled(alloc: Global, text: String) -> Option<String> {
 
 /// Appends the words of the formats after PBN, which is the first.
 fn put_formats(out: &mut String) -> Option<()> {
-    let others = Format::NAMED.get(1..)?;
+    let others = FORMATS.table.get(1..)?;
     for (place, (word, _)) in others.iter().enumerate() {
         out.push_str(word).ok()?;
         let more = match others.len().saturating_sub(place) {
