@@ -1,6 +1,7 @@
 //! Values that are asked for by a word.
 
 /// The words that ask for a type's values.
+#[derive(Drop)]
 pub struct Words<T: Copy + 'static> {
     /// Each word, with what it asks for.
     pub table: &'static [(&'static str, T)],
