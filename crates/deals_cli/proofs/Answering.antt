@@ -25,7 +25,7 @@ use Rattle.jobs.proofs.FirstDue.{output_due}
 use Rattle.jobs.proofs.Statuses.{no_memory, served}
 use Rattle.command_line.specs.CommandLine.{asked, kinds_for}
 use Rattle.command_line.specs.Reading.{AreRead}
-use Rattle.deals_cli.specs.Program.{Answers, AreRefused, IsStatusFor, IsTaskFor, MayShow, ReadsTask, WantsInput, is_shown}
+use Rattle.deals_cli.specs.Program.{Answers, AreRefused, IsStatusFor, IsTaskFor, MayShow, ReadsTask, WantsInput, WritesText, is_shown}
 use Rattle.deals_cli.specs.declared.task.Task.{Task}
 use Rattle.deals_cli.specs.declared.task.Task.TheVariants.{Do, Show}
 use Rattle.deals_cli.specs.internal.Kinds.{RefusesError}
@@ -52,6 +52,7 @@ refused words w f is r = record {
   nothing_done = r.nothing_done;
   status = wish_status words w (status_of f) is r.status;
   due = λ v other. inr (subst (λ (x : Wish). IsDueFor x f) (same_wish words w v is other) r.due);
+  unasked = λ none. not_none words w is none;
 }
 
 -- clap's error isn't that memory ran out: the words ask for nothing
@@ -86,11 +87,13 @@ mistaken words e (CommandLine text) read because = record {
     unasked = λ _. none_refused words (among words e read because.1 (λ is. record { kind = kind_of e; among = is; refused = because.0 }));
   };
   due = λ w is. not_none words w is (unasked words e read because.1);
+  unasked = λ _. tt;
 }
 mistaken words e (Interrupted cause.Memory) read because = record {
   nothing_done = refl;
   status = record { wished = λ w is. no_memory w 5 refl; unasked = λ none. none_no_memory words 5 refl };
   due = λ w is. inl refl;
+  unasked = λ _. tt;
 }
 mistaken words e _ read because = absurd because
 
@@ -115,6 +118,7 @@ answers_refused words f before old r = record {
   no_report = λ none. tt;
   status = r.status;
   due = r.due;
+  unasked = r.unasked;
   stands = λ w is. inl (leaves_nothing w f before old r.nothing_done);
   untouched = λ _. refl;
 }
@@ -131,6 +135,7 @@ answers_job words job (Ok report) before after old new (w, is, ready) serves =
       no_report = λ none. not_none words w is none;
       status = wish_status words w 0 is s.status;
       due = λ v other. tt;
+      unasked = λ none. tt;
       stands = λ v other. tt;
       untouched = tt;
     }
@@ -144,6 +149,7 @@ answers_job words job (Err f) before after old new (w, is, ready) serves =
       no_report = λ none. tt;
       status = wish_status words w (status_of f) is s.status;
       due = λ v other. inr (serves v (ready_for v other)).due;
+      unasked = λ none. not_none words w is none;
       stands = λ v other. inl (serves v (ready_for v other)).stands;
       untouched = s.untouched;
     }
@@ -158,6 +164,7 @@ answers_text words before after old new (none, may) = record {
   no_report = λ _. refl;
   status = record { wished = λ w is. not_none words w is none; unasked = λ _. none_shown words 0 (inl refl) may };
   due = λ w is. tt;
+  unasked = λ _. tt;
   stands = λ w is. tt;
   untouched = tt;
 }
@@ -170,6 +177,7 @@ breaks_text words before after old new (none, may) = record {
   no_report = λ _. tt;
   status = record { wished = λ w is. not_none words w is none; unasked = λ _. none_shown words 4 (inr refl) may };
   due = λ w is. not_none words w is none;
+  unasked = λ _. tt;
   stands = λ w is. not_none words w is none;
   untouched = λ bad. absurd cc;
 }
@@ -208,9 +216,20 @@ flush_fails words report before after old mid new same a = record {
   no_report = λ _. tt;
   status = record { wished = wished; unasked = λ none. none_shown words 4 (inr refl) ((a.status.unasked none).shown (inl refl)) };
   due = λ w is. inr (output_due w (a.status.wished w is));
+  unasked = λ _. tt;
   stands = λ w is. inr (refl, subst (λ (o : Option (List ℕ)). AppendsFrom w before after old o) (sym same) (a.text w is));
   untouched = λ bad. absurd cc;
 }
   where
     wished : (w : Wish) → asked words ≡ Some w → IsStatusOf w 4
     wished w is = let both = (a.status.wished w is).accepted (inl refl) in served w 4 (inr refl) both.0 both.1
+
+-- ---- the text of a task
+
+pub no_text : (task : Task) (f : Failure) (old new : Option (List ℕ)) → WritesText task (Err f) old new
+no_text (Show text) f old new = tt
+no_text (Do job) f old new = tt
+
+pub text_flushed : (task : Task) (r : Result (Option Report) Failure) (old mid new : Option (List ℕ)) → new ≡ mid
+    → WritesText task r old mid → WritesText task r old new
+text_flushed task r old mid new same written = subst (λ (o : Option (List ℕ)). WritesText task r old o) (sym same) written

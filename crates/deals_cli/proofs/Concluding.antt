@@ -13,7 +13,7 @@ use Rattle.jobs.specs.declared.failure.Failure.TheVariants.{EndOfInput}
 use Rattle.jobs.proofs.Refusals.{status_of-status}
 use Rattle.requests.specs.Requests.{Wish, make}
 use Rattle.command_line.specs.CommandLine.{asked}
-use Rattle.deals_cli.specs.Program.{Answers, HasReport, TellsWhyFrom}
+use Rattle.deals_cli.specs.Program.{Answers, HasReport, TellsUnasked, TellsWhyFrom}
 use Rattle.deals_cli.specs.Reported.{Says}
 use Rattle.deals_cli.specs.Wishes.{AppendsFrom}
 use Rattle.deals_cli.proofs.Reports.{none_made, said, some_made}
@@ -65,6 +65,18 @@ why words (Err f) w s before after old new input_old input_new took_all err_old 
   status_is = is;
   stands = a.stands w asks;
   input = λ input. subst (λ (x : Failure). CountsInput {T = Option Report} (Err x) input_old input_new) input counts;
+  line = says;
+}
+
+pub why_unasked : (words : List Text) (r : Result (Option Report) Failure) (s : ℕ)
+    (before after old new : Option (List ℕ)) (took_all : Type 0) (err_old err_new : Option (List ℕ))
+    → Answers words r before after old new → s ≡ status_in r → Says r took_all err_old err_new → asked words ≡ None
+    → (s ≡ 0 → ⊥) → TellsUnasked s took_all err_old err_new
+why_unasked words (Ok report) s before after old new took_all err_old err_new a is says none failed = absurd (failed is)
+why_unasked words (Err f) s before after old new took_all err_old err_new a is says none failed = record {
+  failure = f;
+  fails = a.unasked none;
+  status_is = is;
   line = says;
 }
 

@@ -1,7 +1,7 @@
 -- How the program ends for words that ask for nothing, for others `Wishes` says it;
 -- and what it says and leaves of a failure.
 use Rattle.std.specs.Prelude.{◌≡◌, ◌⊎◌, ℕ, Bool, true, false, List, [], Option, None, Some}
-use Rattle.std.specs.Prelude.{Result, IfErr, IfOk, OnOk}
+use Rattle.std.specs.Prelude.{Result, IfErr, IfOk, OnOk, string_bytes}
 use Rattle.clap.specs.Kinds.{IsAmong}
 use Rattle.clap.specs.Walk.{Text}
 use Rattle.clap.specs.declared.error.kind.ErrorKind.{ErrorKind}
@@ -19,7 +19,7 @@ use Rattle.jobs.specs.Statuses.{parts_of}
 use Rattle.boards.specs.declared.report.Report.{Report}
 use Rattle.requests.specs.declared.request.Notices.{Notices}
 use Rattle.jobs.specs.declared.failure.Failure.{Failure}
-use Rattle.jobs.specs.declared.failure.Failure.TheVariants.{Interrupted, Input}
+use Rattle.jobs.specs.declared.failure.Failure.TheVariants.{CommandLine, Interrupted, Input}
 use Rattle.command_line.specs.CommandLine.{asked, kinds_for}
 use Rattle.deals_cli.specs.declared.task.Task.{Task}
 use Rattle.deals_cli.specs.declared.task.Task.TheVariants.{Show, Do}
@@ -66,6 +66,13 @@ pub record IsStatusFor (words : List Text) (status : ℕ) : Type 0 where
 abbrev pub MayFail : Wish → Failure → Type 0
 MayFail w failure = (failure ≡ Interrupted Memory) ⊎ IsDueFor w failure
 
+-- words that ask for nothing fail so: clap refuses them, memory ran out, or the output failed
+abbrev pub FailsUnasked : Failure → Type 0
+FailsUnasked (CommandLine text) = Unit {0}
+FailsUnasked (Interrupted Memory) = Unit {0}
+FailsUnasked (Interrupted Output) = Unit {0}
+FailsUnasked failure = ⊥
+
 -- what a wish leaves that fails so; if it was the flush that failed, all of it
 abbrev pub MayLeave : Wish → Failure → (before after old new : Option (List ℕ)) → Type 0
 MayLeave w failure before after old new =
@@ -76,6 +83,12 @@ MayLeave w failure before after old new =
 abbrev pub IsTaskFor : List Text → Task → Type 0
 IsTaskFor words (Show text) = (asked words ≡ None) × MayShow words
 IsTaskFor words (Do job) = (w : Wish) × (asked words ≡ Some w) × IsReady w job
+
+-- the text of a task that is one is written, if the output took it
+abbrev pub WritesText : Task → Result (Option Report) Failure
+    → (old new : Option (List ℕ)) → Type 0
+WritesText (Show text) r old new = OnOk r (AppendsAll old new (string_bytes text))
+WritesText (Do job) r old new = Unit {0}
 
 -- the task reads the input, and the words ask for what does: a `pick`, a `show`, a seed, boards
 -- with tricks
@@ -99,6 +112,7 @@ pub record AreRefused (words : List Text) (failure : Failure) : Type 0 where
   pub nothing_done : is_refusal failure ≡ true
   pub status : IsStatusFor words (status_of failure)
   pub due : (w : Wish) → asked words ≡ Some w → MayFail w failure
+  pub unasked : asked words ≡ None → FailsUnasked failure
 
 -- what was done for words: `before` and `after` are what the input had to give before and after
 -- it, `old` and `new` what the output had taken
@@ -109,6 +123,7 @@ pub record Answers (words : List Text) (r : Result (Option Report) Failure)
   pub no_report : asked words ≡ None → IfOk r (λ report. report ≡ None)
   pub status : IsStatusFor words (status_in r)
   pub due : (w : Wish) → asked words ≡ Some w → IfErr r (MayFail w)
+  pub unasked : asked words ≡ None → IfErr r FailsUnasked
   pub stands : (w : Wish) → asked words ≡ Some w
       → IfErr r (λ e. MayLeave w e before after old new)
   pub untouched : IfErr r (λ e. is_untouched e ≡ true → new ≡ old)
@@ -140,3 +155,12 @@ abbrev pub TellsWhy : Wish → ℕ → (out_old out_new : Option (List ℕ)) →
     → (err_old err_new : Option (List ℕ)) → Type 0
 TellsWhy w status out_old out_new took_all err_old err_new =
     TellsWhyFrom w status (Some []) (Some []) ⊥ out_old out_new took_all err_old err_new
+
+-- why words that ask for nothing failed with this status: the error output, if it took all that it
+-- was given, has the line of the failure
+pub record TellsUnasked (status : ℕ) (took_all : Type 0)
+    (err_old err_new : Option (List ℕ)) : Type 0 where
+  pub failure : Failure
+  pub fails : FailsUnasked failure
+  pub status_is : status ≡ status_of failure
+  pub line : took_all → AppendsAll err_old err_new (line_of failure)

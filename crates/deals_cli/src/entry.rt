@@ -1,10 +1,11 @@
 //! The program over its words and two sinks.
 
 ghost use Rattle.std.specs.Prelude.{◌≡◌, ◌≢◌, ◌⊎◌, ◌+◌, ◌-◌, ◌^◌, ◌<◌, ◌≤◌, ◌==◌};
-ghost use Rattle.std.specs.Prelude.{Some, if◌then◌else◌, map, string_bytes};
+ghost use Rattle.std.specs.Prelude.{None, Some, if◌then◌else◌, map, string_bytes};
 ghost use Rattle.command_line.specs.CommandLine.{asked};
 ghost use Rattle.deals_cli.specs.Program.{Answers, HasReport, IsFlushedAfter, IsStatusFor};
-ghost use Rattle.deals_cli.specs.Program.{TellsWhy, TellsWhyFrom, WantsBytes, WantsInput};
+ghost use Rattle.deals_cli.specs.Program.{TellsUnasked, TellsWhy, TellsWhyFrom};
+ghost use Rattle.deals_cli.specs.Program.{WantsBytes, WantsInput};
 ghost use Rattle.jobs.specs.Failures.{CountsInput, faults_in, status_in};
 ghost use Rattle.requests.specs.Requests.{Wish};
 ghost use Rattle.jobs.specs.Statuses.{IsStatus, IsStatusWithInput};
@@ -49,9 +50,9 @@ fn answer<R: Threads + Wait + Clone + Send + 'static, I: Source, O: Sink>(
 /// Runs the program over an input, and returns its exit status. `pick`, `show`, `seed` and
 /// `make --tricks` alone read the input.
 ///
-/// The statuses are those of `program`, and one more. 7: a line of the input is refused, or the
-/// input couldn't be read; what is on `out` is flushed. It may wait for its workers and its
-/// input.
+/// The statuses are those of `program`, and one more. 7: a line of the input is refused, the input
+/// couldn't be read, or it ended before the four bytes of a seed; what is on `out` is flushed. It
+/// may wait for its workers and its input.
 pub fn program_with_input<R: Threads + Wait + Clone + Send + 'static, I: Source, O: Sink, E: Sink>(
     rt: &R,
     alloc: Global,
@@ -77,6 +78,11 @@ pub fn program_with_input<R: Threads + Wait + Clone + Send + 'static, I: Source,
         → TellsWhyFrom w result (I.rest input.old) (I.rest input.new)
         (I.faults input.new ≡ I.faults input.old + 1) (O.bytes out.old) (O.bytes out.new)
         (E.faults err.new ≡ E.faults err.old) (E.bytes err.old) (E.bytes err.new) }
+    // For words that ask for nothing it is clap's refusal, memory that ran out or the output's
+    // failure, and that is said.
+    ensures told_unasked { asked (map string_bytes words.now) ≡ None → result ≢ 0
+        → TellsUnasked result (E.faults err.new ≡ E.faults err.old)
+        (E.bytes err.old) (E.bytes err.new) }
     // There are seven statuses.
     ensures status { IsStatusWithInput result }
     // Nothing was written if something is refused or memory ran out.
@@ -109,8 +115,8 @@ pub fn program_with_input<R: Threads + Wait + Clone + Send + 'static, I: Source,
 /// plan, a label or a hand is refused; 3: definitions, the condition or a question are refused; 4:
 /// the output failed; 5: out of memory; 6: a thread couldn't be started, or a worker stopped or
 /// wasn't closed. What went wrong is said on `err`, in one line but for clap's texts, and a report
-/// if that is asked for; faults of `err` are ignored. It may wait for its workers. Words that can't
-/// be done without an input end with 7.
+/// if that is asked for; faults of `err` are ignored. It may wait for its workers. There is no input:
+/// a `seed`, and a `make --tricks` that has boards, end with 7, unless something else ends them.
 pub fn program<R: Threads + Wait + Clone + Send + 'static, O: Sink, E: Sink>(
     rt: &R,
     alloc: Global,
@@ -131,6 +137,11 @@ pub fn program<R: Threads + Wait + Clone + Send + 'static, O: Sink, E: Sink>(
     ensures told { (w : Wish) → asked (map string_bytes words.now) ≡ Some w → result ≢ 0
         → TellsWhy w result (O.bytes out.old) (O.bytes out.new)
         (E.faults err.new ≡ E.faults err.old) (E.bytes err.old) (E.bytes err.new) }
+    // For words that ask for nothing it is clap's refusal, memory that ran out or the output's
+    // failure, and that is said.
+    ensures told_unasked { asked (map string_bytes words.now) ≡ None → result ≢ 0
+        → TellsUnasked result (E.faults err.new ≡ E.faults err.old)
+        (E.bytes err.old) (E.bytes err.new) }
     // There are six statuses. Words that ask for what can't be done without an input have one more:
     // 7, that there is none.
     ensures status { (WantsBytes (map string_bytes words.now) → ⊥) → IsStatus result }

@@ -6,7 +6,7 @@ ghost use Rattle.clap.specs.Walk.{Text};
 ghost use Rattle.clap.specs.Words.{kind_of};
 ghost use Rattle.command_line.specs.Reading.{AreRead};
 ghost use Rattle.deals_cli.specs.Program.{Answers, AreRefused, IsFlushedAfter, IsTaskFor};
-ghost use Rattle.deals_cli.specs.Program.{ReadsTask, is_shown};
+ghost use Rattle.deals_cli.specs.Program.{ReadsTask, WritesText, is_shown};
 ghost use Rattle.deals_cli.specs.internal.Kinds.{RefusesError};
 ghost use Rattle.jobs.specs.Failures.{CountsInput, faults_in, status_in, status_of};
 
@@ -88,6 +88,7 @@ fn write<R: Threads + Wait + Clone + Send + 'static, I: Source, O: Sink>(
     requires input { I.faults input.old < 2 ^ 64 - 1 }
     ensures answers { (words : List Text) → IsTaskFor words task → Answers words result
         (I.rest input.old) (I.rest input.new) (O.bytes out.old) (O.bytes out.new) }
+    ensures shown { WritesText task result (O.bytes out.old) (O.bytes out.new) }
     ensures faults { O.faults out.new ≡ O.faults out.old + faults_in result }
     ensures input { CountsInput result (I.faults input.old) (I.faults input.new) }
     ensures unread { (ReadsTask task → ⊥) → (I.rest input.new ≡ I.rest input.old)
@@ -103,8 +104,9 @@ fn write<R: Threads + Wait + Clone + Send + 'static, I: Source, O: Sink>(
     }
 }
 
-/// Does the task and flushes the output, unless it failed. Returns the report, if one was asked
-/// for. `pick`, `show`, `seed` and `make --tricks` alone read the input. It may wait for its
+/// Does the task, and flushes the output once it is done. Returns the report, if one was asked
+/// for. `pick`, `show`, `seed` and `make --tricks` alone read the input; where that is refused or
+/// fails, what was written is flushed, after any other failure it may not be. It may wait for its
 /// workers and its input.
 ///
 /// # Errors
@@ -121,6 +123,7 @@ pub fn perform<R: Threads + Wait + Clone + Send + 'static, I: Source, O: Sink>(
     requires input { I.faults input.old < 2 ^ 64 - 1 }
     ensures answers { (words : List Text) → IsTaskFor words task → Answers words result
         (I.rest input.old) (I.rest input.new) (O.bytes out.old) (O.bytes out.new) }
+    ensures shown { WritesText task result (O.bytes out.old) (O.bytes out.new) }
     ensures faults { O.faults out.new ≡ O.faults out.old + faults_in result }
     ensures input { CountsInput result (I.faults input.old) (I.faults input.new) }
     ensures unread { (ReadsTask task → ⊥) → (I.rest input.new ≡ I.rest input.old)

@@ -1,6 +1,6 @@
 use Rattle.std.proofs.Common.{sym, subst, map, string_bytes}
 use Rattle.deals_cli.specs.Program.{IsStatusFor}
-use Rattle.deals_cli.proofs.Concluding.{has_report, input_kept, nothing_written, one_of_seven, output_counted, text_at_zero, why}
+use Rattle.deals_cli.proofs.Concluding.{has_report, input_kept, nothing_written, one_of_seven, output_counted, text_at_zero, why, why_unasked}
 use Rattle.deals_cli.proofs.entry.program_with_input.Goals as goal
 
 pub returns-clause-text : goal.returns-clause-text
@@ -31,3 +31,7 @@ returns-clause-flushed g c = rw c.conclude.ensures.status c.answer-ended.ensures
 
 pub returns-clause-report : goal.returns-clause-report
 returns-clause-report g c zero = has_report _ _ _ _ _ _ _ _ _ _ c.answer-ended.ensures.answers c.conclude.ensures.status c.conclude.ensures.says zero
+
+pub returns-clause-told_unasked : goal.returns-clause-told_unasked
+returns-clause-told_unasked g c none failed = why_unasked _ _ _ _ _ _ _ _ _ _ c.answer-ended.ensures.answers
+    c.conclude.ensures.status c.conclude.ensures.says none failed
