@@ -197,6 +197,44 @@ def on_terminal(words, environment):
     return end.wait(timeout=PATIENCE), said
 
 
+def source_changes():
+    """What may change in a checkout, and whether the launcher has to say so."""
+
+    def aged(seconds):
+        return lambda it: os.utime(it.path("crates/low/src/lib.rt"), (seconds, seconds))
+
+    def older(it):
+        it.put("crates/low/src/lib.rt", "// changed\n")
+        aged(1_000_000_000)(it)
+
+    def rename(it):
+        os.rename(it.path("crates/deals/src/part.rt"), it.path("crates/deals/src/parts.rt"))
+
+    return {
+        "a source": (lambda it: it.put("crates/low/src/lib.rt", "// changed\n"), True),
+        "a source, by as many bytes": (lambda it: it.put("crates/low/src/lib.rt", "// LOW\n"), True),
+        "a source, with an old time": (older, True),
+        "a definition": (lambda it: it.put("crates/low/specs/Low.antt", "-- changed\n"), True),
+        "a new source": (lambda it: it.put("crates/low/src/more.rt", ""), True),
+        "a deleted source": (lambda it: os.remove(it.path("crates/deals/src/part.rt")), True),
+        "a renamed source": (rename, True),
+        "the list of crates": (lambda it: it.put("crates.txt", "low:\ndeals: low # x\ntest_low: low\n"), True),
+        "HANDLES": (lambda it: it.put("HANDLES", "Handles allowed: Threads, Wait.\n"), True),
+        "the program is missing": (lambda it: os.remove(it.path("crates/deals/out/deals")), True),
+        "the program is another": (lambda it: it.put("crates/deals/out/deals", "#!/bin/sh\n"), True),
+        "the program can't be run": (lambda it: os.chmod(it.path("crates/deals/out/deals"), 0o644), True),
+        "the note is missing": (lambda it: os.remove(it.path("crates/deals/out/built-from")), True),
+        "a time from the future": (aged(4_000_000_000), False),
+        "an old time": (aged(1_000_000_000), False),
+        "an edit": (lambda it: it.put("crates/low/must-fail/a.edit", "file: src/main.rt\n"), False),
+        "a crate of tests": (lambda it: it.put("crates/test_low/src/lib.rt", "// changed\n"), False),
+        "the stored run": (lambda it: it.put("crates/deals/stdout", "changed\n"), True),
+        "what another build made": (lambda it: it.put("crates/low/out/made.rt", ""), False),
+        "a page": (lambda it: it.put("README.md", ""), False),
+        "an editor's lock": (lambda it: os.symlink("nowhere", it.path("crates/low/src/.#lib.rt")), False),
+    }
+
+
 class Checks:
     """The tests; each is a method, and yields names and whether they are right."""
 
@@ -431,40 +469,7 @@ class Checks:
                     yield f"in {name}, {language}, again", again == (0, shown("x"), b"") and it.calls("try") == 0
 
     def check_sources(self):
-        def aged(seconds):
-            return lambda it: os.utime(it.path("crates/low/src/lib.rt"), (seconds, seconds))
-
-        def older(it):
-            it.put("crates/low/src/lib.rt", "// changed\n")
-            aged(1_000_000_000)(it)
-
-        def rename(it):
-            os.rename(it.path("crates/deals/src/part.rt"), it.path("crates/deals/src/parts.rt"))
-
-        changes = {
-            "a source": (lambda it: it.put("crates/low/src/lib.rt", "// changed\n"), True),
-            "a source, by as many bytes": (lambda it: it.put("crates/low/src/lib.rt", "// LOW\n"), True),
-            "a source, with an old time": (older, True),
-            "a definition": (lambda it: it.put("crates/low/specs/Low.antt", "-- changed\n"), True),
-            "a new source": (lambda it: it.put("crates/low/src/more.rt", ""), True),
-            "a deleted source": (lambda it: os.remove(it.path("crates/deals/src/part.rt")), True),
-            "a renamed source": (rename, True),
-            "the list of crates": (lambda it: it.put("crates.txt", "low:\ndeals: low # x\ntest_low: low\n"), True),
-            "HANDLES": (lambda it: it.put("HANDLES", "Handles allowed: Threads, Wait.\n"), True),
-            "the program is missing": (lambda it: os.remove(it.path("crates/deals/out/deals")), True),
-            "the program is another": (lambda it: it.put("crates/deals/out/deals", "#!/bin/sh\n"), True),
-            "the program can't be run": (lambda it: os.chmod(it.path("crates/deals/out/deals"), 0o644), True),
-            "the note is missing": (lambda it: os.remove(it.path("crates/deals/out/built-from")), True),
-            "a time from the future": (aged(4_000_000_000), False),
-            "an old time": (aged(1_000_000_000), False),
-            "an edit": (lambda it: it.put("crates/low/must-fail/a.edit", "file: src/main.rt\n"), False),
-            "a crate of tests": (lambda it: it.put("crates/test_low/src/lib.rt", "// changed\n"), False),
-            "the stored run": (lambda it: it.put("crates/deals/stdout", "changed\n"), True),
-            "what another build made": (lambda it: it.put("crates/low/out/made.rt", ""), False),
-            "a page": (lambda it: it.put("README.md", ""), False),
-            "an editor's lock": (lambda it: os.symlink("nowhere", it.path("crates/low/src/.#lib.rt")), False),
-        }
-        for name, (change, is_told) in changes.items():
+        for name, (change, is_told) in source_changes().items():
             with self.checkout(is_built=True) as it:
                 if name == "a source":
                     time.sleep(2.1)
