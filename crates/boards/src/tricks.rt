@@ -130,11 +130,7 @@ impl Tricks {
         if !are_tricks(word) {
             return None;
         }
-        Some(Tricks {
-            digits: small(word),
-            score: ArrayVec::new(),
-            contract: ArrayVec::new(),
-        })
+        Some(Tricks::scored(word, &[], &[]))
     }
 
     /// Returns tricks with a score, and the contract, if it isn't empty.

@@ -13,7 +13,7 @@ pub struct Words<T: Copy + 'static> {
 #[macro_export]
 macro_rules! words {
     ($first:literal => $value:expr $(, $word:literal => $other:expr)*) => {
-        Words {
+        $crate::Words {
             table: &[($first, $value) $(, ($word, $other))*],
             list: concat!($first $(, ", ", $word)*),
         }

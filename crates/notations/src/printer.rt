@@ -3,6 +3,7 @@
 ghost use Rattle.std.specs.Prelude.{◌≡◌, ◌≢◌, [], IfOk, None, Some};
 ghost use Rattle.notations.specs.Formats.{HasPrinted, beside_hands, board_text, footer_of, header_of, header_with_tricks, layout_in};
 ghost use Rattle.notations.specs.Formats.{layout_of, layout_showing, layout_with};
+ghost use Rattle.boards.specs.Show.{all_shown};
 ghost use Rattle.boards.specs.TricksLines.{nothing_known};
 ghost use Rattle.boards.specs.Captions.{captions_in};
 ghost use Rattle.notations.specs.internal.Pens.{footer_after, format_of};
@@ -78,7 +79,9 @@ impl AnyPrinter {
     /// `AllocError` if the allocation of its memory failed.
     pub fn new(alloc: Global, format: Format, captions: &Captions) -> Result<AnyPrinter, AllocError>
         ensures format { IfOk result (λ p. p.format ≡ format) }
+        ensures show { IfOk result (λ p. p.show ≡ all_shown) }
         ensures heading { IfOk result (λ p. p.heading ≡ captions_in format captions.now) }
+        ensures tricks { IfOk result (λ p. p.tricks ≡ None) }
         ensures layout { IfOk result (λ p. ⟦<AnyPrinter as Notation>⟧.layout p
             ≡ layout_of format (captions_in format captions.now)) }
         ensures text { IfOk result (λ p. p.text ≡ []) }

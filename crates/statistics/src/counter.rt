@@ -16,7 +16,7 @@ use std::alloc::{AllocError, Global};
 const MAX_DEALS: u64 = MAX_CANDIDATES;
 
 /// Counts the deals of boards by their answers. As a notation it writes no board: its footer is the
-/// table.
+/// table. Only the first 2^40 boards are counted: no run has more.
 ///
 /// It takes the memory for the numbers of a table once, when it is created, and none to count.
 pub struct Counter {

@@ -90,6 +90,17 @@ pub(crate) fn put_fraction(text: &mut TextBuffer, digits: Digits, a: u128, b: u1
     put_with_point(text, digits, rounded(parts * a, b) as u64);
 }
 
+/// Appends a part of the whole, per cent.
+pub(crate) fn put_per_cent(text: &mut TextBuffer, part: u64, whole: u64)
+    requires some { 0 < whole }
+    requires part { part ≤ whole }
+    requires room { length text.old + 50 ≤ CAPACITY }
+    ensures text { text.new ≡ text.old ++ fraction 2 (100 * part) whole }
+    ensures most { length text.new ≤ length text.old + 40 }
+{
+    put_fraction(text, Digits::Two, 100 * u128::from(part), u128::from(whole));
+}
+
 /// Returns the whole square root: the greatest number whose square is at most `n`.
 pub(crate) fn whole_root(n: u128) -> u64
     requires { n < 2 ^ 68 }

@@ -9,7 +9,7 @@ ghost use Rattle.statistics.specs.OneQuestion.{bar, bar_len, blocks, deviation, 
 ghost use Rattle.statistics.specs.OneQuestion.{row};
 ghost use Rattle.statistics.specs.Rounded.{fraction};
 
-use crate::fractions::{Digits, put_fraction, put_with_point, rounded, whole_root};
+use crate::fractions::{Digits, put_fraction, put_per_cent, put_with_point, rounded, whole_root};
 use crate::numbers::{put_commas, put_label, put_right};
 use boards::TextBuffer;
 
@@ -62,7 +62,7 @@ pub(crate) fn put_row(text: &mut TextBuffer, shown: &Row)
     text.put(b"  ");
     put_deals(text, shown.second, shown.count);
     text.put(b"  ");
-    put_per_cent(text, shown.count, shown.all);
+    put_share(text, shown.count, shown.all);
     put_bar(text, shown.count, shown.most);
     text.put(b"\n");
 }
@@ -92,21 +92,15 @@ fn put_deals(text: &mut TextBuffer, width: usize, deals: u64)
 }
 
 /// Appends the deals per cent of all at the right of a column of six.
-fn put_per_cent(text: &mut TextBuffer, deals: u64, all: u64)
+fn put_share(text: &mut TextBuffer, deals: u64, all: u64)
     requires some { 0 < all }
-    requires most { all ≤ 2 ^ 40 }
     requires deals { deals ≤ all }
     requires room { length text.old + 110 ≤ CAPACITY }
     ensures text { text.new ≡ text.old ++ right 6 (fraction 2 (100 * deals) all) }
     ensures most { length text.new ≤ length text.old + 100 }
 {
     let mut cell = TextBuffer::new();
-    put_fraction(
-        &mut cell,
-        Digits::Two,
-        100 * u128::from(deals),
-        u128::from(all),
-    );
+    put_per_cent(&mut cell, deals, all);
     put_right(text, 6, cell.as_bytes());
 }
 

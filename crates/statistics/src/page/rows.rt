@@ -5,9 +5,8 @@ ghost use Rattle.boards.specs.declared.buffer.TheConstants.{CAPACITY};
 ghost use Rattle.statistics.specs.Counting.{most_counted};
 ghost use Rattle.statistics.specs.OneQuestion.{mean_text};
 ghost use Rattle.statistics.specs.Page.{page_bar, page_header, page_row};
-ghost use Rattle.statistics.specs.Rounded.{fraction};
 
-use crate::fractions::{Digits, put_fraction};
+use crate::fractions::put_per_cent;
 use crate::numbers::{put_commas, put_label};
 use crate::one_lines::{Row, put_mean};
 use boards::TextBuffer;
@@ -61,17 +60,6 @@ fn put_page_bar(text: &mut TextBuffer, count: u64, most: u64)
     text.put(b"<i style=\"width:");
     put_per_cent(text, count, most);
     text.put(b"%\"></i>");
-}
-
-/// Appends a part of the whole, per cent.
-fn put_per_cent(text: &mut TextBuffer, part: u64, whole: u64)
-    requires some { 0 < whole }
-    requires part { part ≤ whole }
-    requires room { length text.old + 50 ≤ CAPACITY }
-    ensures text { text.new ≡ text.old ++ fraction 2 (100 * part) whole }
-    ensures most { length text.new ≤ length text.old + 40 }
-{
-    put_fraction(text, Digits::Two, 100 * u128::from(part), u128::from(whole));
 }
 
 /// Appends the mean and the standard deviation of some answers, as a paragraph.
