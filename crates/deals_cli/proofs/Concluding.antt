@@ -57,14 +57,14 @@ pub why : (words : List Text) (r : Result (Option Report) Failure) (w : Wish) (s
     (err_old err_new : Option (List ℕ))
     → Answers words r before after old new → s ≡ status_in r → CountsInput r input_old input_new
     → Says r took_all err_old err_new → asked words ≡ Some w → (s ≡ 0 → ⊥)
-    → TellsWhyFrom w s before after (input_new ≡ input_old + 1) old new took_all err_old err_new
+    → TellsWhyFrom w s before after input_old input_new old new took_all err_old err_new
 why words (Ok report) w s before after old new input_old input_new took_all err_old err_new a is counts says asks failed = absurd (failed is)
 why words (Err f) w s before after old new input_old input_new took_all err_old err_new a is counts says asks failed = record {
   failure = f;
   due = a.due w asks;
   status_is = is;
   stands = a.stands w asks;
-  input = λ input. subst (λ (x : Failure). CountsInput {T = Option Report} (Err x) input_old input_new) input counts;
+  input = counts;
   line = says;
 }
 

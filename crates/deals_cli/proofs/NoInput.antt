@@ -1,12 +1,13 @@
 -- Without an input no status is 7, but of words that ask for what needs one.
-use Rattle.std.proofs.Common.{◌≡◌, ◌∙◌, ℕ, zero, suc, true, false, List, [], Option, None, Some, refl, sym, subst, inl, inr, arith}
+use Rattle.std.proofs.Common.{◌≡◌, ◌∙◌, ℕ, zero, suc, true, false, List, [], Option, None, Some, Err, refl, sym, subst, inl, inr, arith}
 use Rattle.std.proofs.lemmas.List.{append-nil}
 use Rattle.clap.specs.Walk.{Text}
 use Rattle.boards.specs.declared.cause.Cause.TheVariants as cause
 use Rattle.input.specs.NumberTexts.{said}
 use Rattle.input.specs.declared.refused_line.RefusedLine.{RefusedLine}
 use Rattle.input.specs.declared.numbers.fault.PickFault.TheVariants.{Refused}
-use Rattle.jobs.specs.Failures.{status_of}
+use Rattle.boards.specs.declared.report.Report.{Report}
+use Rattle.jobs.specs.Failures.{CountsInput, status_of}
 use Rattle.deals_cli.specs.Interruptions.{EndsAtRecord, EndsFor}
 use Rattle.input.specs.Games.{game_says}
 use Rattle.input.specs.Texts.{spelled}
@@ -20,7 +21,7 @@ use Rattle.jobs.specs.Makings.{plan_of}
 use Rattle.boards.specs.Plans.{Planned}
 use Rattle.input.specs.TricksPicked.{text_picks}
 use Rattle.jobs.specs.Statuses.{IsStatus, IsStatusWithInput, parts_of}
-use Rattle.deals_cli.specs.Program.{IsStatusOfNone, MayFail, MayLeave, TellsWhy, TellsWhyFrom}
+use Rattle.deals_cli.specs.Program.{IsStatusOfNone, MayFail, MayLeave, TellsWhy}
 
 nothing_refused : (line : RefusedLine) → (said []).refused ≡ Some line → ⊥
 unfolding said
@@ -63,13 +64,13 @@ no_end draw other (inr due) = other tt
 no_end _ other (inr due) = due
 
 no_seven : (w : Wish) (f : Failure) (old new : Option (List ℕ)) → ((parts_of w).bytes → ⊥) → MayFail w f
-    → MayLeave w f (Some []) (Some []) old new → (f ≡ Input → ⊥) → status_of f ≡ 7 → ⊥
+    → MayLeave w f (Some []) (Some []) old new → CountsInput {T = Option Report} (Err f) 0 0 → status_of f ≡ 7 → ⊥
 no_seven w (Interrupted cause.Output) old new other due may sound is = cc
 no_seven w (Line line) old new other due (inl leaves) sound is = no_line_ended w line old new other leaves
 no_seven w (Line line) old new other due (inr flushed) sound is = let bad = flushed.0 in cc
 no_seven w (Record line) old new other due (inl leaves) sound is = no_record_ended w line old new leaves
 no_seven w (Record line) old new other due (inr flushed) sound is = let bad = flushed.0 in cc
-no_seven w Input old new other due may sound is = sound refl
+no_seven w Input old new other due may failed is = omega (arith, failed)
 no_seven w EndOfInput old new other due may sound is = no_end w other due
 no_seven w f old new other due may sound is = cc
 
@@ -95,15 +96,3 @@ six words (Some w) s old new took_all err_old err_new is some none other = six_o
     refused seven =
         let why = some w refl (λ zero. omega (arith, seven, zero)) in
         no_seven w why.failure old new (other w refl) why.due why.stands why.input (sym why.status_is ∙ seven)
-
--- an input that can't fail didn't
-pub without : (w : Wish) (s : ℕ) (failed : Type 0) (old new : Option (List ℕ)) (took_all : Type 0) (err_old err_new : Option (List ℕ)) → (failed → ⊥)
-    → TellsWhyFrom w s (Some []) (Some []) failed old new took_all err_old err_new → TellsWhy w s old new took_all err_old err_new
-without w s failed old new took_all err_old err_new never h = record {
-  failure = h.failure;
-  due = h.due;
-  status_is = h.status_is;
-  stands = h.stands;
-  input = λ is. never (h.input is);
-  line = h.line;
-}

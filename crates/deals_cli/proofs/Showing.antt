@@ -1,5 +1,5 @@
 -- From how boards of the input were shown to what is promised of a `show`.
-use Rattle.std.proofs.Common.{◌≡◌, ◌∙◌, ℕ, List, Option, None, Result, Ok, Err, refl, inl, inr}
+use Rattle.std.proofs.Common.{◌≡◌, ◌∙◌, ◌++◌, ℕ, List, Option, None, Result, Ok, Err, ap, refl, subst, sym, inl, inr}
 use Rattle.boards.specs.declared.cause.Cause.TheVariants.{Memory, Output}
 use Rattle.jobs.specs.Jobs.{IsReady}
 use Rattle.jobs.specs.declared.failure.Failure.{Failure}
@@ -9,15 +9,17 @@ use Rattle.jobs.specs.declared.job.Job.TheVariants as a_job
 use Rattle.jobs.proofs.Statuses.{failed_input, no_memory, served}
 use Rattle.requests.specs.Requests.{Wish, show}
 use Rattle.deals_cli.specs.Served.{Serves}
-use Rattle.input.specs.Readers.{InputFaults}
+use Rattle.input.specs.Readers.{InputFaults, IsFresh, ReadsNext, unread_spells}
 use Rattle.input.specs.Shown.{MoreFaults}
+use Rattle.input.specs.Texts.{MayEnd, Spelled}
+use Rattle.input.specs.declared.records.reader.BoardReader.{BoardReader}
 use Rattle.input.specs.declared.records.reader.Next.{Next}
 use Rattle.input.specs.declared.records.reader.ReadFault.{ReadFault}
 use Rattle.input.specs.declared.records.reader.ReadFault.TheVariants as read
 use Rattle.input.specs.declared.records.shown.ShowFault.{ShowFault}
 use Rattle.input.specs.declared.records.shown.ShowFault.TheVariants as fault
 use Rattle.deals_cli.specs.internal.Ends.{CountsShown, EndsShowing, EndsShown}
-use Rattle.deals_cli.specs.Shown.{GoesOn, ShowsUnder}
+use Rattle.deals_cli.specs.Shown.{FailsFirst, GoesOn, ShowsUnder}
 
 -- ---- how often the input failed
 
@@ -47,6 +49,22 @@ pub goes_on : (first : Result Next ReadFault) (r : Result ℕ ShowFault) (old ne
 goes_on (Ok next) r old new h other = tt
 goes_on (Err (read.Refused line)) r old new h other = h.1
 goes_on (Err read.Input) r old new h other = absurd (other refl)
+
+-- nothing was written where that failed, and no board is sure
+pub fails_first : (start next : BoardReader) (first : Result Next ReadFault) (before after out : Option (List ℕ))
+    → IsFresh start → ReadsNext start next first before after → first ≡ Err read.Input → FailsFirst before after out out
+fails_first start next first before after out fresh reads is =
+    let failed : ReadsNext start next (Err read.Input) before after = subst (λ f. ReadsNext start next f before after) is reads in
+    let end : MayEnd (λ rest. unread_spells start (failed.given ++ rest)) = failed.tells in
+    record {
+      given = failed.given;
+      consumed = failed.consumed;
+      no_board = record {
+        rest = end.rest;
+        none = ap (λ (s : Spelled). s.boards) (sym (fresh (failed.given ++ end.rest))) ∙ end.none;
+      };
+      nothing = refl;
+    }
 
 -- ---- of a job
 

@@ -13,7 +13,7 @@ use Rattle.input.specs.declared.records.shown.ShowFault.{ShowFault}
 use Rattle.input.specs.declared.records.shown.ShowFault.TheVariants as shown
 use Rattle.deals_cli.specs.Formats.{layout_in}
 use Rattle.deals_cli.specs.Picked.{PicksAs}
-use Rattle.deals_cli.specs.Shown.{ShowsUnder}
+use Rattle.deals_cli.specs.Shown.{FailsFirst, ShowsUnder}
 use Rattle.jobs.specs.Makings.{AreWorkers, Means, heading_of, plan_of, title_of}
 use Rattle.requests.specs.Requests.{Look, Questions, Search, Wish, count, draw, make}
 use Rattle.requests.specs.Requests.{no_search, numbers_look, pick, show}
@@ -85,18 +85,19 @@ BreaksOff (count s questions style notices) cause before after old new =
 BreaksOff (pick seed hands l tricks hints) cause before after old new =
     (fault : PickFault) × EndsPick (no_search seed hands) l tricks fault before after old new
 BreaksOff (show l hints) cause before after old new =
-    (new ≡ old) ⊎ ((fault : ShowFault) × EndsShow l fault before after old new)
+    FailsFirst before after old new
+    ⊎ ((fault : ShowFault) × EndsShow l fault before after old new)
 BreaksOff w cause before after old new = IsSomeAnd (text_of w) (AppendsPart old new)
 
 -- a wish was ended by this fault of its input; of a `draw` nothing is written then, nor of a `show`
--- whose first read failed
+-- whose first read failed, which has no board
 abbrev pub EndsFor : Wish → PickFault → (before after old new : Option (List ℕ)) → Type 0
 EndsFor (pick seed hands l tricks hints) fault before after old new =
     EndsPick (no_search seed hands) l tricks fault before after old new
 EndsFor (make s l true notices) fault before after old new =
     EndsTold s l fault before after old new
 EndsFor (show l hints) picks.Input before after old new =
-    (new ≡ old) ⊎ EndsShow l shown.Input before after old new
+    FailsFirst before after old new ⊎ EndsShow l shown.Input before after old new
 EndsFor draw picks.Input before after old new = new ≡ old
 EndsFor w fault before after old new = ⊥
 

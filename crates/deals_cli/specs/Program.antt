@@ -1,14 +1,14 @@
 -- How the program ends for words that ask for nothing, for others `Wishes` says it;
 -- and what it says and leaves of a failure.
 use Rattle.std.specs.Prelude.{◌≡◌, ◌⊎◌, ℕ, Bool, true, false, List, [], Option, None, Some}
-use Rattle.std.specs.Prelude.{Result, IfErr, IfOk, OnOk, string_bytes}
+use Rattle.std.specs.Prelude.{Result, Err, IfErr, IfOk, OnOk, string_bytes}
 use Rattle.clap.specs.Kinds.{IsAmong}
 use Rattle.clap.specs.Walk.{Text}
 use Rattle.clap.specs.declared.error.kind.ErrorKind.{ErrorKind}
 use Rattle.clap.specs.declared.error.kind.ErrorKind.TheVariants as kind
 use Rattle.boards.specs.declared.cause.Cause.TheVariants.{Memory, Output}
 use Rattle.sinks.specs.Appended.{AppendsAll}
-use Rattle.jobs.specs.Failures.{is_refusal, is_untouched, status_of}
+use Rattle.jobs.specs.Failures.{CountsInput, is_refusal, is_untouched, status_of}
 use Rattle.jobs.specs.FirstRefusal.{IsDueFor}
 use Rattle.deals_cli.specs.Interruptions.{LeavesFrom}
 use Rattle.jobs.specs.Lines.{line_of}
@@ -19,7 +19,7 @@ use Rattle.jobs.specs.Statuses.{parts_of}
 use Rattle.boards.specs.declared.report.Report.{Report}
 use Rattle.requests.specs.declared.request.Notices.{Notices}
 use Rattle.jobs.specs.declared.failure.Failure.{Failure}
-use Rattle.jobs.specs.declared.failure.Failure.TheVariants.{CommandLine, Interrupted, Input}
+use Rattle.jobs.specs.declared.failure.Failure.TheVariants.{CommandLine, Interrupted}
 use Rattle.command_line.specs.CommandLine.{asked, kinds_for}
 use Rattle.deals_cli.specs.declared.task.Task.{Task}
 use Rattle.deals_cli.specs.declared.task.Task.TheVariants.{Show, Do}
@@ -99,7 +99,7 @@ ReadsTask (Do job) = ReadsInput job
 abbrev pub WantsInput : List Text → Type 0
 WantsInput words = (w : Wish) × (asked words ≡ Some w) × (parts_of w).input
 
--- the words ask for what can't be done without bytes of the input: a seed, or boards with tricks
+-- the words ask for what may end since the input has too few bytes: a seed, or boards with tricks
 abbrev pub WantsBytes : List Text → Type 0
 WantsBytes words = (w : Wish) × (asked words ≡ Some w) × (parts_of w).bytes
 
@@ -138,23 +138,23 @@ pub record HasReport (words : List Text) (took_all : Type 0)
   pub quiet : wants_report (asked words) ≡ false → new ≡ old
 
 -- why a wish failed with this status: the failure is due, the output has what it leaves by what the
--- input had to give before and after it, the input failed if the failure says so, and the error
--- output, if it took all that it was given, has its line
+-- input had to give before and after it, the input failed as often as the failure says, and the
+-- error output, if it took all that it was given, has its line
 pub record TellsWhyFrom (w : Wish) (status : ℕ) (before after : Option (List ℕ))
-    (input_failed : Type 0) (out_old out_new : Option (List ℕ))
+    (input_old input_new : ℕ) (out_old out_new : Option (List ℕ))
     (took_all : Type 0) (err_old err_new : Option (List ℕ)) : Type 0 where
   pub failure : Failure
   pub due : MayFail w failure
   pub status_is : status ≡ status_of failure
   pub stands : MayLeave w failure before after out_old out_new
-  pub input : failure ≡ Input → input_failed
+  pub input : CountsInput {T = Option Report} (Err failure) input_old input_new
   pub line : took_all → AppendsAll err_old err_new (line_of failure)
 
 -- the same without an input
 abbrev pub TellsWhy : Wish → ℕ → (out_old out_new : Option (List ℕ)) → Type 0
     → (err_old err_new : Option (List ℕ)) → Type 0
 TellsWhy w status out_old out_new took_all err_old err_new =
-    TellsWhyFrom w status (Some []) (Some []) ⊥ out_old out_new took_all err_old err_new
+    TellsWhyFrom w status (Some []) (Some []) 0 0 out_old out_new took_all err_old err_new
 
 -- why words that ask for nothing failed with this status: the error output, if it took all that it
 -- was given, has the line of the failure

@@ -1,6 +1,8 @@
 -- What a `show` writes: the boards that the input has, with their tricks, under the labels of the
 -- options, or else of the game of the first board.
-use Rattle.std.specs.Prelude.{ℕ, Bool, false, List, Option, Result, Ok, Err, length, nat_lt}
+use Rattle.std.specs.Prelude.{◌≡◌, ◌++◌, ℕ, Bool, false, List, Option, Result, Ok, Err, length}
+use Rattle.std.specs.Prelude.{nat_lt}
+use Rattle.std.specs.Io.KnownBytes.{Consumes}
 use Rattle.std.specs.Option.{option_or}
 use Rattle.boards.specs.Headings.{HeadingView, no_heading}
 use Rattle.boards.specs.declared.format.Format.{Format}
@@ -10,6 +12,7 @@ use Rattle.boards.specs.Captions.{captions_in}
 use Rattle.notations.specs.Formats.{layout_solved}
 use Rattle.input.specs.Readers.{IsFresh, ReadsNext}
 use Rattle.input.specs.Shown.{EndsBy, Shows}
+use Rattle.input.specs.Texts.{MayEnd, spelled}
 use Rattle.input.specs.declared.records.reader.BoardReader.{BoardReader}
 use Rattle.input.specs.declared.records.reader.Next.{Next}
 use Rattle.input.specs.declared.records.reader.Next.TheVariants.{Board, Last}
@@ -45,6 +48,14 @@ abbrev pub GoesOn : Result Next ReadFault → Result ℕ ShowFault → Type 0
 GoesOn (Ok next) result = Unit {0}
 GoesOn (Err (read.Refused line)) result = EndsBy (read.Refused line) result
 GoesOn (Err read.Input) result = ⊥
+
+-- the first read of the input failed: nothing is written, and what the input gave may go on so
+-- that no board comes
+pub record FailsFirst (before after old new : Option (List ℕ)) : Type 0 where
+  pub given : List ℕ
+  pub consumed : Consumes before after given
+  pub no_board : MayEnd (λ rest. spelled (given ++ rest))
+  pub nothing : new ≡ old
 
 -- boards were shown in this format, with these hands, under those labels that it writes
 pub record ShowsUnder (format : Format) (show : Show) (given : HeadingView)

@@ -72,11 +72,11 @@ pub fn program_with_input<R: Threads + Wait + Clone + Send + 'static, I: Source,
     // whether they ask for help, or are refused.
     ensures asked { IsStatusFor (map string_bytes words.now) result }
     // If it isn't 0, it is the status of the first failure that is due: the output has what that
-    // leaves, the input failed if that says so, and the error output has its line, unless it failed
-    // itself.
+    // leaves, the input failed once if that says so, and may have before the output did, and the
+    // error output has its line, unless it failed itself.
     ensures told { (w : Wish) → asked (map string_bytes words.now) ≡ Some w → result ≢ 0
         → TellsWhyFrom w result (I.rest input.old) (I.rest input.new)
-        (I.faults input.new ≡ I.faults input.old + 1) (O.bytes out.old) (O.bytes out.new)
+        (I.faults input.old) (I.faults input.new) (O.bytes out.old) (O.bytes out.new)
         (E.faults err.new ≡ E.faults err.old) (E.bytes err.old) (E.bytes err.new) }
     // For words that ask for nothing it is clap's refusal, memory that ran out or the output's
     // failure, and that is said.
@@ -115,8 +115,10 @@ pub fn program_with_input<R: Threads + Wait + Clone + Send + 'static, I: Source,
 /// plan, a label or a hand is refused; 3: definitions, the condition or a question are refused; 4:
 /// the output failed; 5: out of memory; 6: a thread couldn't be started, or a worker stopped or
 /// wasn't closed. What went wrong is said on `err`, in one line but for clap's texts, and a report
-/// if that is asked for; faults of `err` are ignored. It may wait for its workers. There is no input:
-/// a `seed`, and a `make --tricks` that has boards, end with 7, unless something else ends them.
+/// if that is asked for; faults of `err` are ignored. It may wait for its workers.
+///
+/// There is no input: a `seed`, and a `make --tricks` that has boards, end with 7, unless something
+/// else ends them.
 pub fn program<R: Threads + Wait + Clone + Send + 'static, O: Sink, E: Sink>(
     rt: &R,
     alloc: Global,
@@ -142,8 +144,8 @@ pub fn program<R: Threads + Wait + Clone + Send + 'static, O: Sink, E: Sink>(
     ensures told_unasked { asked (map string_bytes words.now) ≡ None → result ≢ 0
         → TellsUnasked result (E.faults err.new ≡ E.faults err.old)
         (E.bytes err.old) (E.bytes err.new) }
-    // There are six statuses. Words that ask for what can't be done without an input have one more:
-    // 7, that there is none.
+    // There are six statuses. Words that ask for a seed, or for boards with tricks, have one more:
+    // 7, that there is no input.
     ensures status { (WantsBytes (map string_bytes words.now) → ⊥) → IsStatus result }
     ensures statuses { IsStatusWithInput result }
     // Nothing was written if something is refused or memory ran out.

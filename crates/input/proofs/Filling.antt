@@ -11,7 +11,10 @@ use Rattle.input.specs.declared.records.reader.Next.TheVariants.{Board, Last, En
 use Rattle.input.specs.declared.records.reader.ReadFault.{ReadFault}
 use Rattle.input.specs.declared.records.reader.ReadFault.TheVariants.{Refused, Input}
 use Rattle.input.specs.declared.records.game.Told.{Told}
-use Rattle.input.specs.Texts.{Spelled, after, refused_with}
+use Rattle.input.specs.RecordScans.{spells_from}
+use Rattle.input.specs.Texts.{MayEnd, Spelled, after, refused_with}
+use Rattle.input.proofs.Overlong.{may_end}
+use Rattle.input.proofs.Unread.{none_unread}
 
 pub fills_none : (r : BoardReader) (before : Option (List ℕ)) → Fills r r before before
 fills_none r before = record { given = []; consumed = Consumes-nil before; goes_on = λ rest. refl }
@@ -59,13 +62,23 @@ reads_end r f s (Err (Refused line)) before after p end tells =
     record { given = p.given; consumed = p.consumed; at_end = tt; tells = whole r f before after p _ tells }
 reads_end r f s (Err Input) before after p end tells = absurd tells
 
+-- nothing is left of the piece
+pub none_left : (l t : BoardReader) → ((rest : List ℕ) → unread_spells l rest ≡ unread_spells t rest) → t.from ≡ t.to
+    → MayEnd (unread_spells l)
+none_left l t same empty =
+    let end : MayEnd (spells_from t.scanner) = may_end t.scanner in
+    record {
+      rest = end.rest;
+      none = ap (λ (s : Spelled). s.boards) (same end.rest ∙ none_unread t empty end.rest) ∙ end.none;
+    }
+
 pub reads_failed : (r l s : BoardReader) (before middle after : Option (List ℕ)) → Fills r l before middle
-    → Keeps middle after → ReadsNext r s (Err Input) before after
-reads_failed r l s before middle after p kept = record {
+    → Keeps middle after → MayEnd (unread_spells l) → ReadsNext r s (Err Input) before after
+reads_failed r l s before middle after p kept end = record {
   given = p.given;
   consumed = Consumes-kept before middle after p.given p.consumed kept;
   at_end = tt;
-  tells = tt;
+  tells = record { rest = end.rest; none = ap (λ (s : Spelled). s.boards) (p.goes_on end.rest) ∙ end.none };
 }
 
 pub no_board : (f : BoardReader) (result : Result Next ReadFault) (P : Type 0) → TellsEnd f result → OnBoard result P

@@ -20,6 +20,7 @@ pub mod Rooms
 pub mod Tags
 pub mod Passing
 pub mod Unread
+pub mod Overlong
 pub mod Filling
 pub mod Written
 pub mod Dealt

@@ -69,8 +69,8 @@ filled r s empty same first rest =
     rw (none, same, first) refl
 
 -- nothing is left of a piece
-pub none_unread : (r : BoardReader) → r.from ≡ r.to → unread_spells r [] ≡ spells_from r.scanner []
+pub none_unread : (r : BoardReader) → r.from ≡ r.to → (rest : List ℕ) → unread_spells r rest ≡ spells_from r.scanner rest
 unfolding unread_spells unread
-none_unread r empty =
+none_unread r empty rest =
     let none : drop r.from (take r.to r.piece) ≡ [] = drop_all r.from (take r.to r.piece) (rw length-take (omega (arith, empty))) in
     rw none refl

@@ -183,6 +183,7 @@ shows_failed layout r s count before now after_read base out q p = record {
       record {
         later = λ rest. unread_spells r (q.given ++ rest);
         spells = λ rest. ap spelled (append_assoc p.given q.given rest) ∙ p.spells (q.given ++ rest);
+        no_more = q.tells;
       },
       p.bytes,
     ),

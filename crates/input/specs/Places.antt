@@ -2,6 +2,7 @@
 use Rattle.std.specs.Prelude.{ℕ, ◌+◌, ◌==◌, ◌&&◌, ◌||◌, Bool, true, false, not}
 use Rattle.std.specs.Prelude.{List, [], ◌∷◌, ◌++◌, if◌then◌else◌}
 use Rattle.std.specs.Char.{is_ascii_alphanumeric}
+use Rattle.input.specs.NumberTexts.{is_blank}
 use Rattle.input.specs.declared.records.line.LinePart.{LinePart}
 use Rattle.input.specs.declared.records.line.LinePart.TheVariants.{Open, Rest, Bracket, Name, Gap, Value}
 use Rattle.input.specs.declared.records.line.LinePart.TheVariants.{Escape, Close}
@@ -36,10 +37,6 @@ new_line p = record p { part = Open; column = 0; name = []; value = [] }
 -- a line without a byte, outside braces
 abbrev pub is_empty : Place → Bool
 is_empty p = p.column == 0 && not p.comment
-
--- a space or a tab
-abbrev pub is_blank : ℕ → Bool
-is_blank b = b == 32 || b == 9
 
 -- a letter, a digit, or _
 abbrev pub is_name_byte : ℕ → Bool

@@ -3,7 +3,7 @@ use Rattle.std.specs.Prelude.{◌≡◌, ◌≤◌, ℕ, ◌+◌, ◌-◌, ◌^�
 use Rattle.std.specs.Prelude.{Option, None, Result, Ok, Err}
 use Rattle.std.specs.Io.KnownBytes.{Consumes, IsAtEnd}
 use Rattle.input.specs.RecordScans.{IsWithin, spells_from}
-use Rattle.input.specs.Texts.{Spelled, after, refused_with, spelled}
+use Rattle.input.specs.Texts.{MayEnd, Spelled, after, refused_with, spelled}
 use Rattle.input.specs.declared.records.reader.BoardReader.{BoardReader}
 use Rattle.input.specs.declared.records.reader.Next.{Next}
 use Rattle.input.specs.declared.records.reader.Next.TheVariants.{Board, Last, End}
@@ -45,7 +45,7 @@ Tells r s (Ok (Last board)) given =
     unread_spells r given ≡ record { boards = board ∷ []; refused = None }
 Tells r s (Ok End) given = unread_spells r given ≡ record { boards = []; refused = None }
 Tells r s (Err (Refused line)) given = unread_spells r given ≡ refused_with line
-Tells r s (Err Input) given = Unit {0}
+Tells r s (Err Input) given = MayEnd (λ rest. unread_spells r (given ++ rest))
 
 -- the input is at its end
 abbrev pub EndsAll : Result Next ReadFault → Option (List ℕ) → Type 0

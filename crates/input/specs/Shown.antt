@@ -4,7 +4,7 @@ use Rattle.std.specs.Prelude.{Result, Ok, Err}
 use Rattle.std.specs.Prelude.{MatchResult, OnOk, flat_map}
 use Rattle.std.specs.Io.KnownBytes.{Consumes, IsAtEnd}
 use Rattle.boards.specs.Layouts.{SolvedLayout}
-use Rattle.input.specs.Texts.{Spelled, after, spelled}
+use Rattle.input.specs.Texts.{MayEnd, Spelled, after, spelled}
 use Rattle.input.specs.declared.records.fault.RefusedRecord.{RefusedRecord}
 use Rattle.input.specs.declared.records.reader.Next.{Next}
 use Rattle.input.specs.declared.records.reader.ReadFault.{ReadFault}
@@ -31,10 +31,11 @@ footer_for layout (Some line) = []
 abbrev pub shown_text : SolvedLayout → Spelled → List ℕ
 shown_text layout s = text_of_told layout s.boards ++ footer_for layout s.refused
 
--- a text spells these boards first, whatever comes after it
+-- a text spells these boards first, whatever comes after it, and no more are sure
 pub record BeginsWith (text : List ℕ) (boards : List Told) : Type 0 where
   pub later : List ℕ → Spelled
   pub spells : (rest : List ℕ) → spelled (text ++ rest) ≡ after boards (later rest)
+  pub no_more : MayEnd later
 
 -- what was written, by the bytes that the input gave
 abbrev pub ShowsOf : SolvedLayout → List ℕ → Result ℕ ShowFault
@@ -47,7 +48,7 @@ ShowsOf layout given (Ok boards) old new =
 ShowsOf layout given (Err (Refused line)) old new =
     ((spelled given).refused ≡ Some line)
     × AppendsAll old new (shown_text layout (spelled given))
--- boards that they begin with
+-- all boards that they begin with
 ShowsOf layout given (Err Input) old new =
     (boards : List Told)
     × (BeginsWith given boards × AppendsAll old new (text_of_told layout boards))

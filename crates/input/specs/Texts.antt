@@ -1,5 +1,5 @@
 -- What a text spells: boards, up to a line that is refused.
-use Rattle.std.specs.Prelude.{◌≤◌, ℕ, ◌+◌, ◌^◌, nat_lt, unwrap_or}
+use Rattle.std.specs.Prelude.{◌≡◌, ◌≤◌, ℕ, ◌+◌, ◌^◌, nat_lt, unwrap_or}
 use Rattle.std.specs.Prelude.{List, [], ◌∷◌, ◌++◌, map, Option, None, Some, Result, Ok, Err}
 use Rattle.std.specs.Prelude.{if◌then◌else◌}
 use Rattle.boards.specs.declared.board.Board.{Board as ABoard}
@@ -31,6 +31,11 @@ refused_at s fault = refused_with (record { line = s.lines + 1; fault = fault })
 -- these boards, and then those
 abbrev pub after : List Told → Spelled → Spelled
 after boards later = record { boards = boards ++ later.boards; refused = later.refused }
+
+-- what comes next may be without a board: none is sure by now
+pub record MayEnd (next : List ℕ → Spelled) : Type 0 where
+  pub rest : List ℕ
+  pub none : (next rest).boards ≡ []
 
 abbrev pub list_of : Option Told → List Told
 list_of None = []

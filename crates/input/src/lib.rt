@@ -5,6 +5,7 @@
 //! as it is read. In each, a line ends with LF or CR LF; the end of the last may be missing.
 #![tactic(auto)]
 
+mod blank;
 mod four_bytes;
 pub mod numbers;
 pub mod records;

@@ -7,7 +7,7 @@ pub enum LineFault {
     NotANumber,
     /// Its number is 2^40 or more.
     NotBelow,
-    /// It comes after as many others as there may be.
+    /// It has a number, and 2^40 lines before it have one.
     TooMany,
     /// It isn't a line of tricks.
     NotTricks,

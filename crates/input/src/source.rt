@@ -41,7 +41,9 @@ pub trait Source {
             Consumes (rest self.old) (rest self.new) (take n piece.new)) }
         ensures end { IfOk result (λ n. n ≡ 0 → IsAtEnd (rest self.new)) }
         ensures kept { IfErr result (λ _. Keeps (rest self.old) (rest self.new)) }
-        ensures given { IfOk result (λ n. given self.new ≡ given self.old + n) }
+        ensures given { MatchResult result
+            (λ n. given self.new ≡ given self.old + n)
+            (λ _. given self.new ≡ given self.old) }
         ensures bound { IfOk result (λ _. given self.new ≤ 2 ^ 50) }
         ensures faults { MatchResult result
             (λ _. faults self.new ≡ faults self.old)
@@ -97,9 +99,10 @@ fn read_some<R: Read>(reader: &mut R, piece: &mut [u8]) -> Result<usize, SourceF
 }
 
 impl<R: Read> Reader<R> {
-    /// A source over `reader`, with no fault so far.
+    /// A source over `reader`, which has given nothing, with no fault so far.
     pub fn new(reader: R) -> Reader<R>
         ensures rest { ⟦<Reader<R> as Source>⟧.rest result ≡ R.remaining reader }
+        ensures given { ⟦<Reader<R> as Source>⟧.given result ≡ 0 }
         ensures faults { ⟦<Reader<R> as Source>⟧.faults result ≡ 0 }
     {
         Reader {
@@ -120,7 +123,9 @@ impl<R: Read> Reader<R> {
         ensures end { IfOk result (λ n. n ≡ 0 → IsAtEnd (R.remaining self.new.reader)) }
         ensures kept { IfErr result (λ _.
             Keeps (R.remaining self.old.reader) (R.remaining self.new.reader)) }
-        ensures given { IfOk result (λ n. self.new.given ≡ self.old.given + n) }
+        ensures given { MatchResult result
+            (λ n. self.new.given ≡ self.old.given + n)
+            (λ _. self.new.given ≡ self.old.given) }
         ensures faults { self.new.faults ≡ self.old.faults }
     {
         if MOST_BYTES - self.given < piece.len() as u64 {

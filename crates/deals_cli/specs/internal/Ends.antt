@@ -25,7 +25,7 @@ use Rattle.input.specs.declared.numbers.fault.PickFault.TheVariants as picks
 use Rattle.input.specs.Shown.{FaultsOf}
 use Rattle.boards.specs.Captions.{captions_in}
 use Rattle.deals_cli.specs.Picked.{PicksAs}
-use Rattle.deals_cli.specs.Shown.{ShowsUnder}
+use Rattle.deals_cli.specs.Shown.{FailsFirst, ShowsUnder}
 use Rattle.input.specs.declared.records.shown.ShowFault.{ShowFault}
 use Rattle.input.specs.declared.records.shown.ShowFault.TheVariants as shown
 use Rattle.jobs.specs.Counting.{table_by}
@@ -174,7 +174,7 @@ ShowsFor job result before after old new =
 abbrev pub EndsShown : ShowJob → Result ℕ ShowFault
     → (before after old new : Option (List ℕ)) → Type 0
 EndsShown job (Err shown.Input) before after old new =
-    (new ≡ old) ⊎ ShowsFor job (Err shown.Input) before after old new
+    FailsFirst before after old new ⊎ ShowsFor job (Err shown.Input) before after old new
 EndsShown job result before after old new = ShowsFor job result before after old new
 
 -- the input failed once if that ended it; where the output failed, it may have failed before
@@ -195,11 +195,12 @@ EndsShowing job (Ok value) before after old new =
     (boards : ℕ) × ShowsFor job (Ok boards) before after old new
 EndsShowing job (Err (Interrupted Memory)) before after old new = new ≡ old
 EndsShowing job (Err (Interrupted Output)) before after old new =
-    (new ≡ old) ⊎ ((fault : ShowFault) × ShowsFor job (Err fault) before after old new)
+    FailsFirst before after old new
+    ⊎ ((fault : ShowFault) × ShowsFor job (Err fault) before after old new)
 EndsShowing job (Err (Record line)) before after old new =
     ShowsFor job (Err (shown.Refused line)) before after old new
 EndsShowing job (Err Input) before after old new =
-    (new ≡ old) ⊎ ShowsFor job (Err shown.Input) before after old new
+    FailsFirst before after old new ⊎ ShowsFor job (Err shown.Input) before after old new
 EndsShowing job (Err failure) before after old new = ⊥
 
 -- a run over boards with tricks ended after its lines were read, for a wish of this search and look

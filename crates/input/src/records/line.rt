@@ -1,13 +1,14 @@
 //! A line that is read byte by byte, up to the tags in it.
 
 ghost use Rattle.std.specs.Prelude.{◌≡◌, ◌≢◌, ◌+◌, ◌<◌, ◌≤◌, ℕ, false, length, true};
-ghost use Rattle.input.specs.Places.{begin, is_blank, is_empty, is_in_tag, is_name_byte};
+ghost use Rattle.input.specs.Places.{begin, is_empty, is_in_tag, is_name_byte};
 ghost use Rattle.input.specs.Places.{moved, new_line, opened, place_after, step_at};
 ghost use Rattle.input.specs.internal.TagTexts.{IsStart, after_tag};
 ghost use Rattle.input.specs.declared.records.line.LineStep.TheVariants.{On, Wrong};
 ghost use Rattle.input.specs.declared.records.line.LinePart.TheVariants.{Bracket, Name, Gap, Value};
 ghost use Rattle.input.specs.declared.records.line.LinePart.TheVariants.{Escape, Close};
 
+use crate::blank::is_blank;
 use arrayvec::ArrayVec;
 use std::marker::Model;
 
@@ -77,12 +78,6 @@ impl Model for RecordLine {
       name : length l.name.items ≤ l.column;
       value : length l.value.items ≤ l.column;
     } };
-}
-
-fn is_blank(byte: u8) -> bool
-    ensures { result ≡ is_blank byte }
-{
-    byte == b' ' || byte == b'\t'
 }
 
 /// Which bytes a name may have: letters, digits and `_`.

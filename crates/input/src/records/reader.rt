@@ -198,10 +198,13 @@ impl BoardReader {
     }
 
     /// Reads on to the next board of an input, from which all was read that was read before.
+    /// Returns the board, and whether the input ended; or that it ended without one.
+    ///
+    /// After a `Next::Board` it can be called again, for the board after that.
     ///
     /// # Errors
     /// `Refused`: the first line that is refused; there is no board before it any more.
-    /// `Input`: the input couldn't be read.
+    /// `Input`: the input couldn't be read, and no game is sure to have ended since the last board.
     pub fn next<I: Source>(&mut self, input: &mut I) -> Result<Next, ReadFault>
         requires ready { IsReady self.old }
         requires fed { IsFed self.old (I.given input.old) }

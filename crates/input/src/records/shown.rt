@@ -133,8 +133,9 @@ fn show_rest<N: SolvedNotation, I: Source, S: Sink>(
 ///
 /// # Errors
 /// `Refused`, with the first line that is refused: the boards of the games that ended before it
-/// were written, and no footer. `Input`: the input couldn't be read; boards that it began with were
-/// written. `Output`: the sink failed; a part of the text was written.
+/// were written, and no footer. `Input`: the input couldn't be read; the boards of the games that
+/// are sure to have ended were written, and no footer. `Output`: the sink failed; a part of the
+/// text was written.
 pub fn show<N: SolvedNotation, I: Source, S: Sink>(
     reader: &mut BoardReader,
     first: Result<Next, ReadFault>,

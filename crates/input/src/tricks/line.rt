@@ -7,8 +7,8 @@ ghost use Rattle.input.specs.declared.tricks.line.LineEnd.TheVariants.{Feed, Las
 ghost use Rattle.input.specs.internal.Telling.{Advances, FailsWithin, GivesByte, ReadsLine, count_of};
 ghost use Rattle.input.specs.internal.TricksPicking.{FailsWithinText, FeedsOn, ReadsText};
 
+use crate::blank::is_blank;
 use crate::source::{MOST_TURNS, Source, SourceFault};
-use crate::tricks::word::is_blank;
 use arrayvec::ArrayVec;
 
 /// The most bytes that are kept of a line. A line of tricks has 123 at most, and a CR.

@@ -4,15 +4,9 @@ ghost use Rattle.std.specs.Prelude.{◌≡◌, ◌<◌, ◌^◌, IfOk, IfSome, f
 ghost use Rattle.input.specs.NumberTexts.{has_lf, is_blank, line_says};
 ghost use Rattle.input.specs.TricksPicked.{behind_word, first_word};
 
+use crate::blank::is_blank;
 use crate::numbers::NumberScanner;
 use crate::refused_line::LineFault;
-
-/// Whether the byte is a space or a tab.
-pub(crate) fn is_blank(byte: u8) -> bool
-    ensures { result ≡ is_blank byte }
-{
-    byte == b' ' || byte == b'\t'
-}
 
 /// Returns where the first blank is.
 fn first_blank(line: &[u8]) -> Option<usize>

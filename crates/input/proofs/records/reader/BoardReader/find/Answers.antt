@@ -1,7 +1,7 @@
 use Rattle.std.proofs.Common.{◌≡◌, ℕ, List, arith, rules}
 use Rattle.input.specs.Readers.{unread_spells}
 use Rattle.input.specs.internal.Endings.{next_found}
-use Rattle.input.proofs.Filling.{fills_on, no_board, reads_end, reads_failed, reads_refused}
+use Rattle.input.proofs.Filling.{fills_on, no_board, none_left, reads_end, reads_failed, reads_refused}
 use Rattle.input.proofs.records.reader.BoardReader.find.Goals as goal
 
 pub finish-requires-clause-empty : goal.finish-requires-clause-empty
@@ -30,9 +30,12 @@ returns-in-Ok-false-fill-clause-more g c = no_board c.fill.new.self (next_found 
 
 pub returns-in-Err-fill-clause-reads : goal.returns-in-Err-fill-clause-reads
 returns-in-Err-fill-clause-reads g c =
+    let same : (rest : List ℕ) → unread_spells c.loop-turn.self rest ≡ unread_spells c.take_piece.new.self rest =
+    λ rest. (rw c.in-Ok-false.field-0-test at c.in-Ok-false.ensures.goes_on) rest in
     reads_failed c.args.self.now c.loop-turn.self c.fill.new.self (g.I.Source.rest c.args.input.now)
     (g.I.Source.rest c.loop-turn.input) (g.I.Source.rest c.fill.new.input) c.loop-turn.invariant.so_far
     c.in-Err-fill.ensures.kept
+    (none_left c.loop-turn.self c.take_piece.new.self same (c.in-Ok-false.ensures.all c.in-Ok-false.field-0-test))
 
 pub loop-turn-preserved : goal.loop-turn-preserved
 loop-turn-preserved g c =
