@@ -25,8 +25,8 @@ BYTES = RANKS + "...ak10 -\n."
 
 LOWER_CASE = "ranks are capital letters, A K Q J T 9 8 7 6 5 4 3 2"
 TEN_AS_DIGITS = "a ten is written T"
-UNKNOWN = "write A K Q J T 9 8 7 6 5 4 3 2 and dots, and leave open cards out"
-DOTS = "three dots part spades, hearts, diamonds and clubs, as AKQ32.K..A"
+UNKNOWN = "write A K Q J T 9 8 7 6 5 4 3 2 and dots, without the cards that may be any"
+DOTS = "three dots separate spades, hearts, diamonds and clubs, as AKQ32.K..A"
 TOO_MANY = "a hand has 13 cards at most"
 
 # What North holds by texts that are hands; each seat is given each of them.

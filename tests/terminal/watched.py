@@ -65,16 +65,16 @@ REFUSED = [
     ("find --seed 0 --boards 4 --where losers(nort)<=5", 3, "condition refused at byte 7: unknown word"),
 ]
 LABEL = 'at most 100 characters of ASCII, from space to ~, without " and \\'
-CAPTION = "at most 100 characters, none of them a control character"
+CAPTION = "at most 100 characters, without control characters and direction marks"
 DATE = "a date is written YYYY.MM.DD, as 2024.05.01"
-DOTS = "three dots part spades, hearts, diamonds and clubs, as AKQ32.K..A"
+DOTS = "three dots separate spades, hearts, diamonds and clubs, as AKQ32.K..A"
 CAPITALS = "ranks are capital letters, A K Q J T 9 8 7 6 5 4 3 2"
 # Words of which an option is refused, and the line below the one that names the refusal.
 ADVISED = [
-    (["--candidates", "1", "--workers", "17"], "--workers 17: 1 to 16 workers"),
-    (["--candidates", "1", "--workers", "0", "--event", "é"], "--workers 0: 1 to 16 workers"),
-    (["--candidates", "1", "--lane", "0"], "--lane 0: 1 to 4096 verdicts"),
-    (["--candidates", "1", "--lane", "5000", "--where", "hcp("], "--lane 5000: 1 to 4096 verdicts"),
+    (["--candidates", "1", "--workers", "17"], "--workers 17: 1 to 16 workers, or auto"),
+    (["--candidates", "1", "--workers", "0", "--event", "é"], "--workers 0: 1 to 16 workers, or auto"),
+    (["--candidates", "1", "--lane", "0"], "--lane 0: 1 to 4096 deals"),
+    (["--candidates", "1", "--lane", "5000", "--where", "hcp("], "--lane 5000: 1 to 4096 deals"),
     (["--boards", "0"], "--boards 0: 1 to 4294967295 boards"),
     (["--boards", "1", "--first-board", "0"], "--first-board 0: 1 to 1099511627776"),
     (["--boards", "1", "--first-board", "1099511627777"], "--first-board 1099511627777: 1 to 1099511627776"),
@@ -95,7 +95,7 @@ ADVISED = [
     (["--boards", "1", "--date", ""], f'--date "": {DATE}'),
     (["--candidates", "1", "--first", str(2**64 - 1)], "--first 18446744073709551615: 0 to 1099511627776"),
     (["--candidates", "7", "--first", "1099511627770"], "--candidates 7: 0 to 6 from this --first on"),
-    (["--boards", "1", "--lane", "4097"], "--lane 4097: 1 to 4096 verdicts"),
+    (["--boards", "1", "--lane", "4097"], "--lane 4097: 1 to 4096 deals"),
     (["--boards", "1", "--event", 'a"b'], f'--event "a"b": {LABEL}\n  hint: write a\'b'),
     (["--boards", "1", "--event", "Zürich, Œuvre"], f'--event "Z??rich, ??uvre": {LABEL}\n  hint: write Zurich, OEuvre'),
     (["--boards", "1", "--event", "Киев"], f'--event "????????": {LABEL}'),
@@ -104,8 +104,8 @@ ADVISED = [
     (["--boards", "1", "--format", "hands", "--site", "Clés\t1"], f'--site "Cl??s 1": {CAPTION}\n  hint: write Clés 1'),
     (["--boards", "1", "--north", "AK.."], f'--north "AK..": {DOTS}'),
     (["--boards", "1", "--north", "A...", "--east", "KA..."], '--east "KA...": the ace of spades is north\'s'),
-    (["--boards", "1", "--south", "ak...", "--west", "ak..."], f'--south "ak...": {CAPITALS}'),
-    (["--boards", "1", "--west", "A.10.K.K"], '--west "A.10.K.K": a ten is written T'),
+    (["--boards", "1", "--south", "ak...", "--west", "ak..."], f'--south "ak...": {CAPITALS}\n  hint: write AK...'),
+    (["--boards", "1", "--west", "A.10.K.K"], '--west "A.10.K.K": a ten is written T\n  hint: write A.T.K.K'),
 ]
 NOTE = b"note: no deal meets this condition, by its numbers alone\r\n"
 TURNED = b"note: no deal meets this condition: in 17-15 has its ends turned; write in 15-17\r\n"
@@ -163,7 +163,7 @@ def check_advised():
         is_named = re.fullmatch(r"(plan|label|hand) refused: [a-z ]+", named) is not None
         yield f"advised: {words}", (status, out, below) == (2, b"", f"  {wanted}\n") and is_named
     status, out, err = told("find --seed 0 --boards 1 --workers 99 --hints always".split())
-    yield "advised: find", (status, out, err) == (2, b"", b"plan refused: workers\n  --workers 99: 1 to 16 workers\n")
+    yield "advised: find", (status, out, err) == (2, b"", b"plan refused: workers\n  --workers 99: 1 to 16 workers, or auto\n")
 
 
 def check_page():

@@ -23,7 +23,7 @@ use Rattle.command_line.specs.CommandLine.{asked, asks_page, called, called_in, 
 use Rattle.command_line.specs.options.Search.{has_bad_workers, is_no_lesson}
 use Rattle.command_line.specs.options.Questions.{has_extra}
 use Rattle.command_line.specs.CommandLine.{has_unknown, kinds_by, kinds_for}
-use Rattle.command_line.specs.CommandLine.{lacks_option, lessons_kinds, made_by, make_kinds}
+use Rattle.command_line.specs.CommandLine.{lacks_option, lessons_kinds, made_by, dealing_kinds}
 use Rattle.command_line.specs.options.Others.{lessons_wish}
 use Rattle.command_line.specs.CommandLine.{missing_kinds, read_kinds, show_kinds, show_wish}
 use Rattle.command_line.specs.options.Search.{search_in}
@@ -32,7 +32,7 @@ use Rattle.requests.specs.Requests.{Wish, conditions}
 use Rattle.command_line.specs.declared.subcommands.Dealing.{Dealing}
 use Rattle.command_line.specs.declared.subcommands.Subcommand.{Subcommand}
 use Rattle.command_line.specs.declared.subcommands.Subcommand.TheVariants.{Deals, Lessons, Show}
-use Rattle.command_line.specs.internal.Asking.{Asks, AsksLessons, AsksMake, AsksShow, HasValues, IsRefused}
+use Rattle.command_line.specs.internal.Asking.{Asks, AsksLessons, AsksDealing, AsksShow, HasValues, IsRefused}
 use Rattle.command_line.proofs.OptionValues.{Reads, each_reads, read_by}
 use Rattle.command_line.proofs.Entered.{enters}
 
@@ -142,7 +142,7 @@ by_kinds words c rows read is =
     ∙ ap (λ (k : Kinds). or_else k (further_kinds words)) f
     ∙ ap (λ (o : Option (Subcommand × List Row)). option_map_or (λ p. kinds_by p.0 p.1) o []) is
 
-asks_make : (words : List Text) (d : Dealing) (rows : List Row) → IsRead words → Calls words (Deals d) rows → AsksMake words d rows
+asks_make : (words : List Text) (d : Dealing) (rows : List Row) → IsRead words → Calls words (Deals d) rows → AsksDealing words d rows
 asks_make words d rows f is = record {
   ends = λ u n w e x. wishes ∙ ap (λ (k : Kinds). unless_fault k wish) (known u ∙ taught n ∙ counted w ∙ ending e ∙ extra x);
   extra = λ u n w e x. record {
@@ -170,7 +170,7 @@ asks_make words d rows f is = record {
     wish : Option Wish
     wish = Some (made_by d (search_in rows) rows)
 
-    wishes : asked words ≡ unless_fault (make_kinds d rows) wish
+    wishes : asked words ≡ unless_fault (dealing_kinds d rows) wish
     wishes = by_wish words (Deals d) rows f is
 
     -- the kinds where each word is one of its option's values, and the lesson is one
@@ -180,7 +180,7 @@ asks_make words d rows f is = record {
     with_lesson : Kinds
     with_lesson = if is_no_lesson (codes "lesson") rows then InvalidValue ∷ [] else further
 
-    known : {b : Bool} → has_unknown (Deals d) rows ≡ b → make_kinds d rows ≡ (if b then InvalidValue ∷ [] else with_lesson)
+    known : {b : Bool} → has_unknown (Deals d) rows ≡ b → dealing_kinds d rows ≡ (if b then InvalidValue ∷ [] else with_lesson)
     known {b} u = ap (λ (x : Bool). if x then InvalidValue ∷ [] else with_lesson) u
 
     taught : {b : Bool} → is_no_lesson (codes "lesson") rows ≡ b → with_lesson ≡ (if b then InvalidValue ∷ [] else further)

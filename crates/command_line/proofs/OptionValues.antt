@@ -16,7 +16,7 @@ use Rattle.command_line.specs.declared.subcommands.Dealing.TheVariants.{Count, F
 use Rattle.command_line.specs.declared.subcommands.Subcommand.{Subcommand}
 use Rattle.command_line.specs.declared.subcommands.Subcommand.TheVariants.{Conditions, Deals, Lessons, Seed, Show, Stream}
 use Rattle.command_line.specs.internal.Asking.{HasValues}
-use Rattle.command_line.specs.internal.Readings.{Gives32, GivesUpTo, HasValue, MakeValues, MayGive32, MayGive64, StreamValues}
+use Rattle.command_line.specs.internal.Readings.{Gives32, GivesUpTo, HasValue, DealingValues, MayGive32, MayGive64, StreamValues}
 use Rattle.command_line.proofs.Entered.{IsSub}
 use Rattle.command_line.proofs.Plain.{plain_of}
 use Rattle.command_line.proofs.Walks.{IsIn, Passing, PlainRules, level_checked}
@@ -149,7 +149,7 @@ Numbers c =
 
 -- a command that requires a seed, and may have the other numbers
 deal_values : (s : Shape) → PlainRules s.rules → s.subcommand_negates_reqs ≡ false → IsIn seed_built s.rules → Numbers s.rules
-    → (words : List Text) → level_fault s [] nothing_held words false [] ≡ [] → MakeValues (rows_after s.rules [] words)
+    → (words : List Text) → level_fault s [] nothing_held words false [] ≡ [] → DealingValues (rows_after s.rules [] words)
 deal_values s plain negates seed (candidates, first, lane, boards, first_board) words f =
     let rows = rows_after s.rules [] words in
     let pass = level_passing s [] words false [] plain f in

@@ -93,8 +93,8 @@ missing_kinds dealing s rows =
     if lacks_option dealing s rows then MissingRequiredArgument ∷ [] else extra_kinds rows
 
 -- clap reads those words as texts: one that means nothing is refused as clap refuses a value
-abbrev pub make_kinds : Dealing → List Row → Kinds
-make_kinds dealing rows =
+abbrev pub dealing_kinds : Dealing → List Row → Kinds
+dealing_kinds dealing rows =
     if has_unknown (Deals dealing) rows then InvalidValue ∷ []
     else (if is_no_lesson (codes "lesson") rows then InvalidValue ∷ []
     else (if has_bad_workers rows then ValueValidation ∷ []
@@ -108,7 +108,7 @@ show_kinds rows = if has_unknown sub.Show rows then InvalidValue ∷ [] else []
 
 -- by the subcommand and what its options were given
 abbrev pub kinds_by : Subcommand → List Row → Kinds
-kinds_by (Deals dealing) rows = make_kinds dealing rows
+kinds_by (Deals dealing) rows = dealing_kinds dealing rows
 kinds_by sub.Show rows = show_kinds rows
 kinds_by Lessons rows = lessons_kinds rows
 kinds_by _ rows = []

@@ -7,7 +7,7 @@ ghost use Rattle.command_line.specs.Rules.{asking_rule, flag_rule, option_rule, 
 ghost use Rattle.command_line.specs.internal.Rows.{rule_for, taking};
 
 use crate::helps::help_of;
-use cards::{MAX_CANDIDATES, MAX_CAPACITY};
+use cards::MAX_CANDIDATES;
 use clap::builder::ValueParser;
 use clap::{Arg, ArgAction, Command, value_parser};
 use std::alloc::{AllocError, Global};

@@ -147,7 +147,7 @@ static SUBCOMMANDS: [SubcommandRow; 9] = [
     },
 ];
 
-/// The subcommands: the table is in one function alone, since a proof reads all of it.
+/// The subcommands: one function alone names the table, since a proof reads all of it.
 pub(crate) fn subcommands() -> &'static [SubcommandRow; 9]
     ensures made { map top_for result.now ≡ map (λ p. p.1.top) subcommands }
     ensures named { map (λ row. (row.name.now, row.subcommand)) result.now ≡ names }
@@ -203,7 +203,7 @@ pub fn command_alone<'a>(alloc: Global, subcommand: Subcommand) -> Result<Comman
     }
 }
 
-/// The program's name, without subcommands. Its texts call it so, whatever its file is called.
+/// The command `deals` without subcommands. Its texts call it so, whatever its file is called.
 ///
 /// # Errors
 /// `AllocError` if an allocation failed.

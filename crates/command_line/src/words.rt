@@ -9,9 +9,9 @@ ghost use Rattle.clap.specs.declared.error.kind.ErrorKind.{ErrorKind};
 ghost use Rattle.command_line.specs.CommandLine.{asks_page, has_no_end, has_unknown};
 ghost use Rattle.command_line.specs.CommandLine.{has_unknown_format, lacks_option, made_by};
 ghost use Rattle.command_line.specs.Reading.{AreRead};
-ghost use Rattle.command_line.specs.internal.Asking.{Asks, AsksLessons, AsksMake, AsksShow};
+ghost use Rattle.command_line.specs.internal.Asking.{Asks, AsksLessons, AsksDealing, AsksShow};
 ghost use Rattle.command_line.specs.internal.Asking.{HasValues};
-ghost use Rattle.command_line.specs.internal.Readings.{MakeValues, MayGive64};
+ghost use Rattle.command_line.specs.internal.Readings.{DealingValues, MayGive64};
 ghost use Rattle.requests.specs.Requests.{search_of, wish_of};
 
 use crate::given::{Unknown, is_set};
@@ -180,8 +180,8 @@ fn dealing_request<'a>(
     dealing: Dealing,
     matches: &ArgMatches<'a>,
 ) -> Result<Request<'a>, Error>
-    requires { MakeValues (rows_of (found_of matches.now)) }
-    ensures { (words : List Text) → AsksMake words dealing (rows_of (found_of matches.now))
+    requires { DealingValues (rows_of (found_of matches.now)) }
+    ensures { (words : List Text) → AsksDealing words dealing (rows_of (found_of matches.now))
         → AreRead words result }
 {
     let subcommand = Subcommand::Deals(dealing);

@@ -1,7 +1,7 @@
 //! What helps a person with a failure, below the line that names it.
 
-use cond_lang::{CondError, text_after};
-use deals_cli::{Failure, Request};
+use cond_lang::{CondError, parse_question, parse_question_after, text_after};
+use deals_cli::{Failure, MAX_QUESTIONS, QuestionName, Request};
 use explain::Reasons;
 use explain_conditions::{explain, explain_definitions, explain_question};
 use std::alloc::Global;
@@ -10,6 +10,9 @@ use std::alloc::Global;
 const TOO_MANY_PARTS: &str =
     "  hint: each any and every asks all in its brackets for each suit or seat: put fewer into one \
      another\n";
+
+/// The most bytes of definitions.
+const MAX_DEFINITIONS: usize = 4096;
 
 /// What helps with a failure; none if nothing does, or if memory runs out. Without a request the
 /// words were refused.
@@ -26,22 +29,55 @@ pub fn help(
             String::from_str(alloc, TOO_MANY_PARTS).ok()
         }
         Failure::Definitions(error) => {
-            let (search, _) = request?.plans()?;
+            let (search, _) = request?.searched()?;
             explain_definitions(alloc, search.let_text?.as_bytes(), *error).ok()
         }
         Failure::Condition(error) => {
-            let (search, _) = request?.plans()?;
+            let (search, _) = request?.searched()?;
             let read = Read::of(alloc, search.let_text, search.where_text?, *error)?;
             explain(alloc, read.text.as_slice(), read.error).ok()
         }
         Failure::Question(name, error) => {
-            let (search, _) = request?.plans()?;
-            let text = request?.question(*name)?;
+            let (search, _) = request?.searched()?;
+            let text = refused_question(alloc, request?, search.let_text, *name, *error)?;
             let read = Read::of(alloc, search.let_text, text, *error)?;
             explain_question(alloc, read.text.as_slice(), read.error).ok()
         }
         _ => explain::help(alloc, words, request, failure, reasons),
     }
+}
+
+/// The text of the question that is refused so: of several questions the first that is. None if
+/// memory runs out.
+fn refused_question<'a>(
+    alloc: Global,
+    request: &Request<'a>,
+    definitions: Option<&str>,
+    name: QuestionName,
+    error: CondError,
+) -> Option<&'a str> {
+    if let Some(text) = request.question(name) {
+        return Some(text);
+    }
+    for place in 0..MAX_QUESTIONS {
+        let text = request.question_at(place)?;
+        if is_refused(alloc, definitions, text, error) {
+            return Some(text);
+        }
+    }
+    None
+}
+
+/// Whether the question after the definitions is refused so.
+fn is_refused(alloc: Global, definitions: Option<&str>, text: &str, error: CondError) -> bool {
+    let read = match definitions {
+        None => parse_question(alloc, text.as_bytes()),
+        Some(definitions) if definitions.len() <= MAX_DEFINITIONS => {
+            parse_question_after(alloc, definitions.as_bytes(), text.as_bytes())
+        }
+        Some(_) => return false,
+    };
+    matches!(read, Err(found) if found == error)
 }
 
 /// A text as it was read, and its refusal with its place there.

@@ -49,7 +49,8 @@ fn not_begun(rt: &HostRuntime, error: &io::Error) -> ExitCode {
     ExitCode::from(5)
 }
 
-/// The task that the words ask for, if hints are said with notes on it for a person, and a count.
+/// Returns the task that the words ask for. If hints are on, notes on it are printed first, and its
+/// boards are counted.
 fn noted(
     rt: &HostRuntime,
     words: &[String],
@@ -86,8 +87,8 @@ fn tell(
     status
 }
 
-/// Does what the words ask for, and says how it ended. Returns the status. `threads` is the handle
-/// of `main`, where alone it starts threads.
+/// Does what the words ask for, and says how it ended. Returns the status. `threads` is the same
+/// handle as `rt`, of a type that `perform` can start threads with.
 fn answer<R: Threads + Wait + Clone + Send + 'static>(
     threads: &R,
     rt: &HostRuntime,

@@ -43,7 +43,7 @@ fn note(alloc: Global, words: &[String], request: &Request<'_>, job: &Job) -> Op
 
 /// The note on a condition that no deal meets, and below it that a lesson's is a part of it.
 fn with_lesson(mut noted: String, request: &Request<'_>) -> String {
-    let has_lesson = match request.plans() {
+    let has_lesson = match request.searched() {
         Some((search, _)) => search.lesson.is_some(),
         None => false,
     };
@@ -57,7 +57,7 @@ fn with_lesson(mut noted: String, request: &Request<'_>) -> String {
 
 /// The note on a slip in the condition of a request. None if it has none, or if memory runs out.
 fn slip_of(alloc: Global, request: &Request<'_>) -> Option<String> {
-    let (search, _) = request.plans()?;
+    let (search, _) = request.searched()?;
     let condition = search.where_text?;
     slip(alloc, condition.as_bytes()).unwrap_or(None)
 }
@@ -127,7 +127,7 @@ pub fn note_after(
 ) -> Option<String> {
     match (read, ended) {
         (_, Ok(Some(report))) if !asks_report(read) && report.candidates < MAX_CANDIDATES => {
-            fewer_boards(alloc, report.boards, u64::from(report.plan.limit()?))
+            fewer_boards(alloc, report)
         }
         (Ok(Request::Show { .. }), Ok(_)) if seen.ends_in_cr() => one_line(alloc),
         (Ok(Request::Show { .. }), Ok(_)) => no_board(alloc, seen.first(), seen.has_deal()),

@@ -40,7 +40,7 @@ impl Rare {
 /// The search of a request that has a condition. None if its hands can't be read, or if memory runs
 /// out.
 fn with_condition(alloc: Global, request: &Request<'_>) -> Option<Searched> {
-    let (search, _) = request.plans()?;
+    let (search, _) = request.searched()?;
     let condition = search.where_text?;
     Some(Searched {
         condition: String::from_str(alloc, condition).ok()?,

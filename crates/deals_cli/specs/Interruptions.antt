@@ -119,7 +119,3 @@ LeavesFrom w (Record line) before after old new = EndsAtRecord w line before aft
 LeavesFrom w Input before after old new = EndsFor w picks.Input before after old new
 LeavesFrom w EndOfInput before after old new = (new ≡ old) × EndsBefore 4 before after
 LeavesFrom w failure before after old new = new ≡ old
-
--- the same without an input
-abbrev pub Leaves : Wish → Failure → (old new : Option (List ℕ)) → Type 0
-Leaves w failure old new = LeavesFrom w failure (Some []) (Some []) old new

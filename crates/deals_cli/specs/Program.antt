@@ -99,7 +99,7 @@ ReadsTask (Do job) = ReadsInput job
 abbrev pub WantsInput : List Text → Type 0
 WantsInput words = (w : Wish) × (asked words ≡ Some w) × (parts_of w).input
 
--- the words ask for what may end since the input has too few bytes: a seed, or boards with tricks
+-- the words ask for what may end because the input has too few bytes: a seed, or boards with tricks
 abbrev pub WantsBytes : List Text → Type 0
 WantsBytes words = (w : Wish) × (asked words ≡ Some w) × (parts_of w).bytes
 

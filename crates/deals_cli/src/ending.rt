@@ -21,8 +21,8 @@ fn say_report<E: Sink>(report: &Option<Report>, err: &mut E)
     }
 }
 
-/// Says how it ended, and returns the status: the report if there is one, or the line of what
-/// failed. Faults of the error output are ignored.
+/// Prints the report, if there is one, or the line of the failure, and returns the status. Faults
+/// of the error output are ignored.
 pub fn conclude<E: Sink>(ended: &Result<Option<Report>, Failure>, err: &mut E) -> u8
     requires { E.faults err.old < 2 ^ 64 - 1 }
     ensures status { result ≡ status_in ended.now }

@@ -24,8 +24,8 @@ pub use ending::conclude;
 pub use entry::{program, program_with_input};
 pub use jobs::{BoardsJob, CountJob, Failure, Job, PickJob, ShowJob, planned};
 pub use requests::{
-    Format, LabelName, Look, Notices, QuestionName, Questions, Request, Search, Show,
-    StreamRequest, TableStyle, When, Workers,
+    Format, LabelName, Look, MAX_QUESTIONS, Notices, QuestionName, Questions, Request, Search,
+    Show, StreamRequest, TableStyle, When, Workers,
 };
 pub use service::serve;
 pub use task::{Task, perform, prepare};

@@ -38,8 +38,8 @@ candidates_advice s =
 abbrev pub plan_advice : Search → Look → PlanError → List ℕ
 plan_advice s l plan.Range = candidates_advice s
 plan_advice s l plan.Workers =
-    range_line (codes "workers") (workers_in s.workers) 1 16 (codes " workers")
-plan_advice s l plan.Capacity = range_line (codes "lane") (lane_of s) 1 4096 (codes " verdicts")
+    range_line (codes "workers") (workers_in s.workers) 1 16 (codes " workers, or auto")
+plan_advice s l plan.Capacity = range_line (codes "lane") (lane_of s) 1 4096 (codes " deals")
 plan_advice s l plan.Boards =
     range_line (codes "boards") (unwrap_or s.boards 0) 1 (2 ^ 32 - 1) (codes " boards")
 plan_advice s l plan.FirstBoard =
@@ -63,7 +63,7 @@ text_line option text rule = given_text option (unwrap_or text []) ++ rule ++ co
 -- what an event and a site may be in a format
 abbrev pub label_rule : Format → List ℕ
 label_rule Pbn = codes "at most 100 characters of ASCII, from space to ~, without \" and \\"
-label_rule _ = codes "at most 100 characters, none of them a control character"
+label_rule _ = codes "at most 100 characters, without control characters and direction marks"
 
 -- what a date may be
 abbrev pub date_rule : List ℕ

@@ -66,12 +66,12 @@ fn of_plan(
                 workers,
                 1,
                 u64::from(MAX_WORKERS),
-                " workers",
+                " workers, or auto",
             )
         }
         PlanError::Capacity => {
             let lane = u64::from(search.lane());
-            of_number(alloc, "lane", lane, 1, u64::from(MAX_CAPACITY), " verdicts")
+            of_number(alloc, "lane", lane, 1, u64::from(MAX_CAPACITY), " deals")
         }
         PlanError::Boards => {
             let boards = u64::from(search.boards.unwrap_or(0));
@@ -188,7 +188,7 @@ fn label_rule(format: Format) -> &'static str
 {
     match format {
         Format::Pbn => "at most 100 characters of ASCII, from space to ~, without \" and \\",
-        _ => "at most 100 characters, none of them a control character",
+        _ => "at most 100 characters, without control characters and direction marks",
     }
 }
 

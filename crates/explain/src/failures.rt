@@ -55,12 +55,15 @@ pub fn help(
 
 /// What helps with a plan, a label or a hand that is refused.
 fn plan_help(alloc: Global, request: Option<&Request<'_>>, failure: &Failure) -> Option<String> {
-    let (search, look) = request?.plans()?;
+    let (search, look) = request?.searched()?;
     let mut text = advise(alloc, &search, &look, failure).unwrap_or(None)?;
-    if let Failure::Label(name) = failure {
-        if let Some(hint) = rewritten::hint(alloc, &look, *name) {
-            text.push_str(hint.as_str()).ok()?;
-        }
+    let hint = match failure {
+        Failure::Label(name) => rewritten::hint(alloc, &look, *name),
+        Failure::Hand(seat) => rewritten::hand_hint(alloc, &search.hands, *seat),
+        _ => None,
+    };
+    if let Some(hint) = hint {
+        text.push_str(hint.as_str()).ok()?;
     }
     Some(text)
 }
@@ -88,7 +91,8 @@ fn line_help(line: RefusedLine) -> &'static str {
             "  hint: the tricks are of other boards: let deals-tricks count those of these\n"
         }
         LineFault::NotANumber | LineFault::NotBelow | LineFault::TooMany => {
-            "  hint: a line has the number of a candidate, as deals find writes it\n"
+            "  hint: each line has the number of one candidate, as deals find writes it; boards of \
+             a file are for deals show\n"
         }
     }
 }
@@ -97,7 +101,8 @@ fn line_help(line: RefusedLine) -> &'static str {
 fn record_help(line: RefusedRecord) -> Option<&'static str> {
     match line.fault {
         RecordFault::NotADeal => Some(
-            "  hint: a deal has all 52 cards, thirteen at each seat: [Deal \"N:AK.. .. .. ..\"]\n",
+            "  hint: a deal has all 52 cards, thirteen at each seat: [Deal \"N:72.AT64.75.AT872 \
+             ...\"]\n",
         ),
         RecordFault::NotANumber => Some("  hint: boards have numbers from 1 to 1099511627776\n"),
         RecordFault::NotADealer => Some("  hint: the dealer is N, E, S or W\n"),

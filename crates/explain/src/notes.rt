@@ -1,6 +1,7 @@
 //! What is noted for a person: that boards with later numbers are the first deals again, that fewer
 //! boards came than were asked for, and that an input has no boards.
 
+use boards::Report;
 use requests::{Request, Search};
 use std::alloc::Global;
 
@@ -40,11 +41,18 @@ fn boards_from(alloc: Global, board: u64, search: &Search<'_>) -> Option<String>
     format!(in alloc; "{board} to {last}").ok()
 }
 
-/// Returns the note on fewer boards than were asked for, as a line; none if as many came, or if
-/// memory runs out.
-pub fn fewer_boards(alloc: Global, boards: u64, asked: u64) -> Option<String> {
+/// Returns the note on fewer boards than were asked for, as a line; none if as many came, if no
+/// number of them was asked for, or if memory runs out.
+pub fn fewer_boards(alloc: Global, report: &Report) -> Option<String> {
+    let asked = u64::from(report.plan.limit()?);
+    let boards = report.boards;
     if boards >= asked {
         return None;
+    }
+    if report.candidates == 0 {
+        return format!(in alloc;
+            "note: none of the {asked} boards asked for: no deal was tried\n"
+        ).ok();
     }
     if boards == 0 {
         return format!(in alloc;
@@ -73,8 +81,8 @@ static BEGINNINGS: [(&[u8], &str); 8] = [
     (b"", "no line of it begins with [Deal"),
 ];
 
-/// Returns the note on an input that begins so and has no board, as a line; none if it may have
-/// one, or if memory runs out.
+/// Returns the note on an input that begins so: that its first line isn't read, or that it has no
+/// board, as a line; none if it may have one, or if memory runs out.
 pub fn no_board(alloc: Global, first: &[u8], has_deal: bool) -> Option<String> {
     if first.starts_with(MARK) && first.ends_with(b"[") {
         return String::from_str(alloc, MARKED).ok();

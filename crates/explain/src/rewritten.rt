@@ -1,8 +1,9 @@
-//! How a label that is refused is to be written: an event or a site in letters that its format has,
-//! and a date with the year first.
+//! How a label or a hand that is refused is to be written: an event or a site in letters that its
+//! format has, a date with the year first, and a hand with dots.
 
 use boards::{Caption, Date, Format, Label};
-use requests::{LabelName, Look};
+use cards::Seat;
+use requests::{LabelName, Look, PredealtHands};
 use std::alloc::Global;
 
 /// What is written for each letter or sign of a row. Letters of other scripts have none.
@@ -60,6 +61,54 @@ pub(crate) fn hint(alloc: Global, look: &Look<'_>, name: LabelName) -> Option<St
     };
     let spelt = spelt.as_str();
     format!(in alloc; "  hint: write {spelt}\n").ok()
+}
+
+/// Returns a line with the seat's hand as it is to be written; none if it isn't known how, or if
+/// memory runs out.
+pub(crate) fn hand_hint(alloc: Global, hands: &PredealtHands<'_>, seat: Seat) -> Option<String> {
+    let text = hands.given_at(seat)?;
+    let spelt = with_dots(alloc, text)?;
+    let spelt = spelt.as_str();
+    let alone = PredealtHands {
+        north: Some(spelt),
+        ..PredealtHands::none()
+    };
+    if spelt == text || alone.fault_at(Seat::North).is_some() {
+        return None;
+    }
+    format!(in alloc; "  hint: write {spelt}\n").ok()
+}
+
+/// What people put between suits, and what they write for a suit or beside its cards.
+const BETWEEN: &str = " ,/|";
+
+const BESIDE: &str = "-\u{2660}\u{2665}\u{2666}\u{2663}\
+    \u{2664}\u{2661}\u{2662}\u{2667}\u{fe0e}\u{fe0f}";
+
+/// The text with dots between its suits, capital letters, and `T` for `10`.
+fn with_dots(alloc: Global, text: &str) -> Option<String> {
+    let mut hand = String::new(alloc);
+    let mut after_one = false;
+    for letter in text.chars() {
+        if after_one != (letter == '0') {
+            return None;
+        }
+        after_one = letter == '1';
+        if after_one || BESIDE.contains(letter) {
+            continue;
+        }
+        hand.push(card_letter(letter)).ok()?;
+    }
+    Some(hand)
+}
+
+/// What is written for the letter.
+fn card_letter(letter: char) -> char {
+    match letter {
+        '0' => 'T',
+        letter if BETWEEN.contains(letter) => '.',
+        letter => letter.to_ascii_uppercase(),
+    }
 }
 
 /// The text as an event or a site of the format; none if it isn't known how.

@@ -23,6 +23,8 @@ use std::alloc::Global;
 
 const COMMAND_FIRST: &str = "the command comes first: deals make --seed 7 --boards 36";
 
+const AFTER_OPTIONS: &str = "each value comes after its option, as --seed 7 --boards 36";
+
 const SHOWN_FILE: &str = "boards of a file come from standard input: deals show < ";
 
 /// How a line of help begins.
@@ -94,18 +96,33 @@ fn of_argument(alloc: Global, words: &[String], command: &str, word: &str) -> Op
     if is_after_tricks(words, word) {
         return joined(alloc, &["the lines come from its input: --tricks < ", word]);
     }
-    if command == "show" {
-        return of_file(alloc, word);
-    }
-    joined(alloc, &[instead::of_word(command, word)])
+    of_stray(alloc, command, word)
 }
 
-/// What helps with a word of `show` that may be the name of a file.
-fn of_file(alloc: Global, word: &str) -> Option<String> {
-    match instead::known_word(word) {
-        Some(text) => joined(alloc, &[text]),
-        None => joined(alloc, &[SHOWN_FILE, word]),
+/// What helps with a word that belongs to no option of the command. One of `show` may be the name
+/// of a file.
+fn of_stray(alloc: Global, command: &str, word: &str) -> Option<String> {
+    if let Some(text) = of_format(alloc, command, word) {
+        return Some(text);
     }
+    if let Some(text) = instead::of_word(command, word) {
+        return joined(alloc, &[elsewhere::fitting(command, text)]);
+    }
+    if command == "show" {
+        return joined(alloc, &[SHOWN_FILE, word]);
+    }
+    joined(
+        alloc,
+        &[elsewhere::of_command(command).unwrap_or(AFTER_OPTIONS)],
+    )
+}
+
+/// What helps with the name of a format in the place of an option of `count`, which has its own.
+fn of_format(alloc: Global, command: &str, name: &str) -> Option<String> {
+    if command != "count" || name.contains(',') {
+        return None;
+    }
+    values::hint(alloc, command, "--format", name)
 }
 
 /// What helps with a command that isn't there.
@@ -140,13 +157,17 @@ fn of_option(alloc: Global, command: &str, word: &str) -> Option<String> {
         return joined(alloc, &[text]);
     }
     let name = word.to_ascii_lowercase(alloc).ok()?;
-    of_name(alloc, name.as_str(), known.is_some())
+    let name = name.as_str();
+    if let Some(text) = of_format(alloc, command, name.trim_start_matches('-')) {
+        return Some(text);
+    }
+    of_name(alloc, command, name, known.is_some())
 }
 
 /// What helps with an option by its name in small letters.
-fn of_name(alloc: Global, name: &str, is_known: bool) -> Option<String> {
+fn of_name(alloc: Global, command: &str, name: &str, is_known: bool) -> Option<String> {
     if let Some(text) = instead::of(alloc, "option", name) {
-        return joined(alloc, &[text]);
+        return joined(alloc, &[elsewhere::fitting(command, text)]);
     }
     if is_known || known_option(name).is_none() {
         return None;

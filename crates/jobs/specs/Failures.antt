@@ -69,7 +69,7 @@ is_untouched (Record line) = false
 is_untouched Input = false
 is_untouched _ = true
 
--- what refuses a wish before anything is done, or ends it there since memory ran out
+-- what refuses a wish before anything is done, or ends it there because memory ran out
 abbrev pub is_refusal : Failure → Bool
 is_refusal (CommandLine text) = true
 is_refusal (Plan error) = true

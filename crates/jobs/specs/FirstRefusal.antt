@@ -58,7 +58,7 @@ IsFirstOf (refusal ∷ rest) s l failure =
     ((failure ≡ refusal) × (Meets s l refusal → ⊥))
     ⊎ (Meets s l refusal × IsFirstOf rest s l failure)
 
--- the given definitions are refused so, and not since memory ran out
+-- the given definitions are refused so, and not because memory ran out
 pub record AreDue (given : Option (List ℕ)) (error : CondError) : Type 0 where
   pub text : List ℕ
   pub is_given : given ≡ Some text
@@ -70,7 +70,7 @@ abbrev pub IsDueRead : (definitions : Option (List ℕ)) → List ℕ → CondEr
 IsDueRead None text error = IsDue text error
 IsDueRead (Some definitions) text error = IsDueAfter definitions text error
 
--- a text is refused so, and not since memory ran out
+-- a text is refused so, and not because memory ran out
 pub record IsTextDue (definitions given : Option (List ℕ)) (error : CondError) : Type 0 where
   pub text : List ℕ
   pub is_given : given ≡ Some text
@@ -109,7 +109,7 @@ abbrev pub IsDueAsked : (definitions : Option (List ℕ)) → List ℕ → CondE
 IsDueAsked None text error = IsDueQuestion text error
 IsDueAsked (Some definitions) text error = IsDueQuestionAfter definitions text error
 
--- a question's text is refused so, and not since memory ran out
+-- a question's text is refused so, and not because memory ran out
 pub record IsQuestionDue (definitions : Option (List ℕ)) (text : List ℕ) (error : CondError)
     : Type 0 where
   pub due : IsDueAsked definitions text error

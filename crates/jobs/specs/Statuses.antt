@@ -17,7 +17,7 @@ pub record Parts : Type 1 where
   pub run : Type 0
   -- it reads the input
   pub input : Type 0
-  -- it may end since the input has too few bytes
+  -- it may end because the input has too few bytes
   pub bytes : Type 0
 
 -- a wish without a plan, a condition, threads or input: a text is written

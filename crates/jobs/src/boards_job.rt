@@ -18,7 +18,7 @@ pub struct BoardsJob {
     pub show: Show,
     /// Whether the input tells what can be made on each board.
     pub tricks: bool,
-    /// How many workers are asked for: with `Auto` the plan has one, until the job is done.
+    /// How many workers are asked for: with `Auto` the plan has one, until the job is run.
     pub workers: Workers,
     ghost workers_are: { plan.workers ≡ workers_in workers },
     /// Whether the boards and the candidates are counted for a report.

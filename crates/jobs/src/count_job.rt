@@ -16,7 +16,7 @@ use statistics::Subject;
 pub struct CountJob {
     pub plan: Plan,
     pub condition: Cond,
-    /// How many workers are asked for: with `Auto` the plan has one, until the job is done.
+    /// How many workers are asked for: with `Auto` the plan has one, until the job is run.
     pub workers: Workers,
     ghost workers_are: { plan.workers ≡ workers_in workers },
     pub style: TableStyle,

@@ -133,7 +133,7 @@ fn read_texts(
     }
 }
 
-/// Returns the questions that the texts ask. The first that is refused is told.
+/// Returns the questions that the texts ask. The first that is refused is reported.
 fn read_each(
     alloc: Global,
     definitions: Option<&str>,

@@ -12,6 +12,11 @@ pub record IsUnread (text : List ℕ) (i : ℕ) : Type 0 where
   pub within : i < length text
   pub unread : is_hand_byte (slice_index text i) ≡ false
 
+-- the byte at this index isn't the letter of a rank in lower case either
+pub record IsStray (text : List ℕ) (i : ℕ) : Type 0 where
+  pub unread : IsUnread text i
+  pub no_letter : is_rank_letter (to_ascii_uppercase (slice_index text i)) ≡ false
+
 -- the letter of a rank in lower case
 pub record HasLowerCase (text : List ℕ) : Type 0 where
   pub place : ℕ
@@ -28,7 +33,7 @@ pub record HasTen (text : List ℕ) : Type 0 where
 abbrev pub IsFaultOf : GivenHands → List ℕ → HandFault → Type 0
 IsFaultOf earlier text LowerCase = HasLowerCase text
 IsFaultOf earlier text TenAsDigits = HasTen text
-IsFaultOf earlier text (Unknown i) = IsUnread text i
+IsFaultOf earlier text (Unknown i) = IsStray text i
 IsFaultOf earlier text Dots = has_three_dots text ≡ false
 IsFaultOf earlier text (Twice c) = 1 < times_in text c
 IsFaultOf earlier text TooMany = has_room text ≡ false

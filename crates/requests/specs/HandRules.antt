@@ -37,8 +37,9 @@ holder_words West = codes " is west's"
 abbrev pub rule_of : HandFault → List ℕ
 rule_of LowerCase = codes "ranks are capital letters, A K Q J T 9 8 7 6 5 4 3 2"
 rule_of TenAsDigits = codes "a ten is written T"
-rule_of (Unknown i) = codes "write A K Q J T 9 8 7 6 5 4 3 2 and dots, and leave open cards out"
-rule_of Dots = codes "three dots part spades, hearts, diamonds and clubs, as AKQ32.K..A"
+rule_of (Unknown i) =
+    codes "write A K Q J T 9 8 7 6 5 4 3 2 and dots, without the cards that may be any"
+rule_of Dots = codes "three dots separate spades, hearts, diamonds and clubs, as AKQ32.K..A"
 rule_of (Twice c) = card_words c ++ codes " is there twice"
 rule_of TooMany = codes "a hand has 13 cards at most"
 rule_of (Held c seat) = card_words c ++ holder_words seat

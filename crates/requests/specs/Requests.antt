@@ -131,6 +131,22 @@ pub data Wish : Type 0 where
   -- the first values of a seed: the seed, and how many
   stream : ℕ → ℕ → Wish
 
+-- the search and the look of a wish that deals or shows boards
+abbrev pub searched : Wish → Option (Search × Look)
+searched (make s l tricks notices) = Some (s, l)
+searched (count s questions style notices) = Some (s, numbers_look)
+searched (pick seed hands l tricks hints) = Some (no_search seed hands, l)
+searched (show l hints) = Some (no_search 0 none_given, l)
+searched _ = None
+
+-- when a person is told what helps
+abbrev pub hints_of : Wish → When
+hints_of (make s l tricks notices) = notices.hints
+hints_of (count s questions style notices) = notices.hints
+hints_of (pick seed hands l tricks hints) = hints
+hints_of (show l hints) = hints
+hints_of _ = Auto
+
 -- what contracts see of a request
 abbrev pub search_of : asked.Search → Search
 search_of s = record {

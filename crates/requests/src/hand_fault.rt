@@ -18,7 +18,7 @@ pub enum HandFault {
     LowerCase,
     /// It has `10` for `T`.
     TenAsDigits,
-    /// The byte at this index is neither a dot nor the letter of a rank.
+    /// The byte at this index is neither a dot nor the letter of a rank, nor that in lower case.
     Unknown(usize),
     /// It hasn't exactly three dots.
     Dots,

@@ -9,6 +9,10 @@ use crate::HandFault;
 use cards::{Card, Seat, Suit};
 use std::alloc::AllocError;
 
+const LETTERS: &str = "write A K Q J T 9 8 7 6 5 4 3 2 and dots, without the cards that may be any";
+
+const THREE_DOTS: &str = "three dots separate spades, hearts, diamonds and clubs, as AKQ32.K..A";
+
 impl HandFault {
     /// Appends what a person should know to write the text right: `a ten is written T`, or
     /// `the ace of spades is there twice`.
@@ -23,12 +27,8 @@ impl HandFault {
                 line.push_str("ranks are capital letters, A K Q J T 9 8 7 6 5 4 3 2")
             }
             HandFault::TenAsDigits => line.push_str("a ten is written T"),
-            HandFault::Unknown(_) => {
-                line.push_str("write A K Q J T 9 8 7 6 5 4 3 2 and dots, and leave open cards out")
-            }
-            HandFault::Dots => {
-                line.push_str("three dots part spades, hearts, diamonds and clubs, as AKQ32.K..A")
-            }
+            HandFault::Unknown(_) => line.push_str(LETTERS),
+            HandFault::Dots => line.push_str(THREE_DOTS),
             HandFault::Twice(card) => put_card(line, card, " is there twice"),
             HandFault::TooMany => line.push_str("a hand has 13 cards at most"),
             HandFault::Held(card, seat) => put_card(line, card, of_holder(seat)),

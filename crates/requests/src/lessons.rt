@@ -1,7 +1,7 @@
 //! Lessons by name: what a teacher asks for, with the condition of its deals.
 //!
 //! Each group of lessons is a table in `groups/`, a row for each: its name, its title, what its
-//! deals show in a sentence, and their condition, in the language of conditions. In each, North
+//! deals show, and their condition, in the language of conditions. In each, North
 //! holds the hand of the dealer. `list.rt` looks names up and lists them.
 
 mod groups;

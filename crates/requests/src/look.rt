@@ -7,17 +7,21 @@ ghost use Rattle.requests.specs.Requests.{look_as, look_of};
 use boards::{Format, Show, Vul};
 use cards::Seat;
 
-/// How boards are numbered, dealt, labelled and written. What an option was not given has its
-/// default.
+/// How boards are numbered, dealt, labelled and written. An option that isn't given is `None`, or
+/// has its default.
 #[derive(Clone, Copy)]
 pub struct Look<'a> {
     /// The notation that the boards are written in.
     pub format: Format,
     /// The hands that are written, and whether their points are.
     pub show: Show,
+    /// The number of the first board, from 1 to 2^40.
     pub first_board: Option<u64>,
+    /// The text given for the name of the event.
     pub event: Option<&'a str>,
+    /// The text given for the club or the place.
     pub site: Option<&'a str>,
+    /// The text given for the date, `YYYY.MM.DD`.
     pub date: Option<&'a str>,
     /// The dealer of every board, in place of Law 2's.
     pub dealer: Option<Seat>,

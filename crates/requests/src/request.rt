@@ -1,6 +1,7 @@
 //! The requests: one variant for each subcommand.
 
-ghost use Rattle.std.specs.Prelude.{◌≤◌, ◌^◌};
+ghost use Rattle.std.specs.Prelude.{◌≡◌, ◌≤◌, ◌^◌, option_map};
+ghost use Rattle.requests.specs.Requests.{hints_of, look_of, search_of, searched, wish_of};
 
 use crate::hands::PredealtHands;
 use crate::lessons::Lesson;
@@ -18,7 +19,7 @@ pub struct Notices {
     pub report: bool,
     /// When the counts are shown while the run lasts.
     pub progress: When,
-    /// When lines that help a person are below a refusal.
+    /// When a person is told what helps: below a refusal, and in notes on a run.
     pub hints: When,
 }
 
@@ -80,7 +81,10 @@ pub enum Request<'a> {
 impl<'a> Request<'a> {
     /// Returns the search and the look of a request that deals or shows boards. The search of a
     /// `pick` or a `show` tries no candidates; the look of a `find` or a `count` is plain.
-    pub fn plans(&self) -> Option<(Search<'a>, Look<'a>)> {
+    pub fn searched(&self) -> Option<(Search<'a>, Look<'a>)>
+        ensures { option_map (λ p. (search_of p.0, look_of p.1)) result
+            ≡ searched (wish_of self.now) }
+    {
         match self {
             Request::Make { search, look, .. } => Some((*search, *look)),
             Request::Find { search, .. } | Request::Count { search, .. } => {
@@ -97,7 +101,7 @@ impl<'a> Request<'a> {
         }
     }
 
-    /// Returns the text of this question, if the request has it.
+    /// Returns the text of this question, if the request has one of this name.
     pub fn question(&self, name: QuestionName) -> Option<&'a str> {
         match self {
             Request::Count { questions, .. } => questions.text(name),
@@ -105,8 +109,21 @@ impl<'a> Request<'a> {
         }
     }
 
-    /// Returns when lines that help a person are below a refusal.
-    pub fn hints(&self) -> When {
+    /// Returns the text in this place of several questions, the first of which is 0.
+    pub fn question_at(&self, place: usize) -> Option<&'a str> {
+        match self {
+            Request::Count {
+                questions: Questions::Each(texts),
+                ..
+            } => texts.get(place),
+            _ => None,
+        }
+    }
+
+    /// Returns when a person is told what helps.
+    pub fn hints(&self) -> When
+        ensures { result ≡ hints_of (wish_of self.now) }
+    {
         match self {
             Request::Make { notices, .. }
             | Request::Find { notices, .. }

@@ -12,8 +12,8 @@ use cards::MAX_CANDIDATES;
 /// How many verdicts a lane holds where nobody waits for the first ones.
 const LONG_LANE: u32 = 4096;
 
-/// Which candidates of a seed are tried, and which of them are accepted. What an option was not
-/// given has its default.
+/// Which candidates of a seed are tried, and which of them are accepted. An option that isn't given
+/// is `None`, or has its default.
 #[derive(Clone, Copy)]
 pub struct Search<'a> {
     pub seed: u32,

@@ -3,7 +3,7 @@
 use boards::{Words, words};
 
 /// When something is shown on the error output that is meant for a person: a run's counts while it
-/// lasts, or what helps below a refusal. Nothing else depends on it.
+/// lasts, or what helps, below a refusal and in notes on a run. Nothing else depends on it.
 #[derive(Clone, Copy)]
 pub enum When {
     /// If the error output is a terminal.

@@ -13,7 +13,7 @@ use Rattle.command_line.specs.declared.subcommands.Dealing.{Dealing}
 use Rattle.command_line.specs.declared.subcommands.Subcommand.{Subcommand}
 use Rattle.command_line.specs.declared.subcommands.Subcommand.TheVariants.{Deals, Lessons, Stream}
 use Rattle.command_line.specs.declared.subcommands.Subcommand.TheVariants as sub
-use Rattle.command_line.specs.internal.Readings.{MakeValues, StreamValues}
+use Rattle.command_line.specs.internal.Readings.{DealingValues, StreamValues}
 
 -- the words are refused with an error of this kind
 pub record IsRefused (words : List Text) (kind : ErrorKind) : Type 0 where
@@ -35,7 +35,7 @@ pub record AsksShow (words : List Text) (rows : List Row) : Type 0 where
 -- words that name `make` or one of its kind ask for it if each word is one of its option's values,
 -- the lesson is one, the workers are a number or `auto`, no option is missing and no question is
 -- too many, and else they are refused
-pub record AsksMake (words : List Text) (dealing : Dealing) (rows : List Row) : Type 0 where
+pub record AsksDealing (words : List Text) (dealing : Dealing) (rows : List Row) : Type 0 where
   pub ends : has_unknown (Deals dealing) rows ≡ false
       → is_no_lesson (codes "lesson") rows ≡ false → has_bad_workers rows ≡ false
       → lacks_option dealing (search_in rows) rows ≡ false → has_extra rows ≡ false
@@ -57,13 +57,13 @@ pub record AsksMake (words : List Text) (dealing : Dealing) (rows : List Row) : 
 
 -- the options of the subcommand have the values that are read of them
 abbrev pub HasValues : Subcommand → List Row → Type 0
-HasValues (Deals dealing) rows = MakeValues rows
+HasValues (Deals dealing) rows = DealingValues rows
 HasValues Stream rows = StreamValues rows
 HasValues _ rows = Unit {0}
 
 -- what the words ask for that name this subcommand
 abbrev pub Asks : List Text → Subcommand → List Row → Type 0
-Asks words (Deals dealing) rows = AsksMake words dealing rows
+Asks words (Deals dealing) rows = AsksDealing words dealing rows
 Asks words sub.Show rows = AsksShow words rows
 Asks words Lessons rows = AsksLessons words rows
 Asks words named rows = asked words ≡ Some (wish_by named rows)

@@ -47,7 +47,7 @@ pub record SearchValues (rows : List Row) : Type 0 where
   pub lane : MayGive32 (codes "lane") rows
   pub boards : MayGive32 (codes "boards") rows
 
--- the options of a `make`, a `find` or a `pick`
-pub record MakeValues (rows : List Row) : Type 0 where
+-- the options of what deals: a `make`, a `find`, a `count` or a `pick`
+pub record DealingValues (rows : List Row) : Type 0 where
   pub search : SearchValues rows
   pub first_board : MayGive64 (codes "first-board") rows

@@ -10,7 +10,7 @@ ghost use Rattle.requests.specs.Requests.{look_of};
 use crate::given::{OptionWords, Unknown, is_set, text_in, u64_in};
 use crate::helps::Section;
 use crate::rows::{OptionRow, Takes, optional};
-use boards::{FORMAT_HELP, FORMATS, SHOWS, Seats, Show, Vul, Words, words};
+use boards::{FORMAT_HELP, FORMATS, SHOWS, Seats, Show, Vul, words};
 use cards::Seat;
 use clap::ArgMatches;
 use requests::{Format, Look};

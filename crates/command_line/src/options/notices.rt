@@ -34,8 +34,8 @@ progress always: When to show how far the search is; auto: on a
 terminal [default: auto]
 [possible values: auto, always, never]
 
-hints always: When to say below a refusal what helps; auto: on a
-terminal [default: auto]
+hints always: When to say what helps, below a refusal and in notes
+on a run; auto: on a terminal [default: auto]
 [possible values: auto, always, never]",
     },
     Section {

@@ -146,7 +146,7 @@ pub(crate) fn bad_workers_in<'a>(matches: &ArgMatches<'a>) -> Option<&'a str>
     }
 }
 
-/// Why the text isn't a number of 32 bits, as clap says it.
+/// Why the text isn't a number of 32 bits, as std's parse says it.
 pub(crate) fn why_no_number(text: &str) -> &'static str {
     if text.is_empty() {
         return "cannot parse integer from empty string";

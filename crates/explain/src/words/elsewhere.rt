@@ -1,7 +1,7 @@
 //! Options that another command takes.
 
 use crate::words::table::find;
-use command_line::{KnownOption, takes_option};
+use command_line::{KnownOption, known_option, takes_option};
 
 /// Commands, options of others, and what helps with these.
 const ROWS: &str = "
@@ -10,6 +10,8 @@ const ROWS: &str = "
     find tricks => deals make takes --tricks
     count rotate => leave --rotate out: it changes no count, and north has the dealer's hand
     count report => leave --report out: the table says how many deals there are
+    pick|show progress => only a search shows how far it is: write --hints never for no notes
+    pick|show report => there is no report without a search: leave it out
     show tricks => \
         deals show writes the tricks that boards have: deals-tricks --add < boards.pbn adds them
     show dealer vulnerable rotate first-board => \
@@ -31,6 +33,28 @@ const OTHERS: &str = "
     show * => \
         deals show deals nothing, it writes the boards of a file: deals show < boards.pbn
 ";
+
+/// What helps with a word of a command that takes none, or nearly none.
+pub(crate) fn of_command(command: &str) -> Option<&'static str> {
+    find(ROWS, command, "*")
+}
+
+/// The text; or, if the first option that it names is one that this command doesn't take and
+/// another does, what helps with that option.
+pub(crate) fn fitting(command: &str, text: &'static str) -> &'static str {
+    first_option(text)
+        .and_then(|known| hint(command, known))
+        .unwrap_or(text)
+}
+
+/// The first option that the text names.
+fn first_option(text: &str) -> Option<KnownOption> {
+    let (_, rest) = text.split_once("--")?;
+    let end = rest
+        .find(|c: char| !c.is_ascii_lowercase() && c != '-')
+        .unwrap_or(rest.len());
+    known_option(&rest[..end])
+}
 
 /// What helps with an option that this command doesn't take, and another does.
 pub(crate) fn hint(command: &str, known: KnownOption) -> Option<&'static str> {

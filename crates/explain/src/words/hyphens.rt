@@ -17,6 +17,9 @@ fn hint_of(alloc: Global, word: &str) -> Option<String> {
         return of_hyphen(alloc, name_of(word.strip_prefix('-')?));
     };
     let name = name_of(rest.trim_start_matches(DASHES).trim_start_matches('-'));
+    if name.is_empty() {
+        return None;
+    }
     let hyphens = if name.len() == 1 { "-" } else { "--" };
     joined(alloc, &["write hyphens, and not a dash: ", hyphens, name])
 }

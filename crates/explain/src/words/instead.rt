@@ -5,8 +5,6 @@ use crate::words::table::{find, find_small};
 use boards::FORMATS;
 use std::alloc::Global;
 
-const AFTER_OPTIONS: &str = "each value comes after its option, as --seed 7 --boards 36";
-
 /// In a text: the formats but PBN.
 const FORMATS_HERE: &str = "%formats";
 
@@ -42,8 +40,14 @@ const ROWS: &str = "
     option --predeal --hand => \
         write --north AKQ32.K..A for cards that North gets, and --east, --south, --west likewise
     option --turn => write --rotate to give north's hand to the dealer
-    option --par --dd --double-dummy --makes => \
+    option --par --dd --double-dummy => \
         write --tricks, with what deals-tricks prints of the boards as input
+    option --makes --make --beaten --contract => \
+        tricks are counted of whole boards: deals make .. | deals-tricks --makes 4S-NS
+    option --nord --norte => write --north for the cards that North gets
+    option --est --ost --este => write --east for the cards that East gets
+    option --sud --sued --sur => write --south for the cards that South gets
+    option --ouest --oeste => write --west for the cards that West gets
     option --hide --only --handout --handouts => \
         write --show north, or dealer, east, south, west, ns or ew
     option --print --printer => \
@@ -54,8 +58,7 @@ const ROWS: &str = "
     option --sections --section --tables --rounds => \
         every section can play the same file of boards; for other boards draw a seed for each
     option --shuffle => every deal is shuffled: without --where all of them are kept
-    option --quiet --silent -q => \
-        write --progress never; nothing else is said unless something fails
+    option --quiet --silent -q => write --progress never --hints never
     option --verbose -v => write --report, or --progress always
     option --version => write deals --version
 
@@ -88,11 +91,10 @@ pub(crate) fn of(alloc: Global, kind: &str, word: &str) -> Option<&'static str> 
     find_small(alloc, ROWS, kind, word)
 }
 
-/// What to write in the place of a word that belongs to no option of this command.
-pub(crate) fn of_word(command: &str, word: &str) -> &'static str {
-    of_value(command, word)
-        .or(known_word(word))
-        .unwrap_or(AFTER_OPTIONS)
+/// What to write in the place of a word that belongs to no option of this command, if it is a value
+/// or a word that people try.
+pub(crate) fn of_word(command: &str, word: &str) -> Option<&'static str> {
+    of_value(command, word).or(find(ROWS, "word", word))
 }
 
 /// What to write in the place of a value without its option: what the table has for an option that
@@ -112,11 +114,6 @@ fn of_value(command: &str, word: &str) -> Option<&'static str> {
 /// What to write in the place of this option.
 pub(crate) fn of_option(option: &str) -> Option<&'static str> {
     find(ROWS, "option", option)
-}
-
-/// What to write in the place of this word, if it is one that people try.
-pub(crate) fn known_word(word: &str) -> Option<&'static str> {
-    find(ROWS, "word", word)
 }
 
 /// The text, with the formats where it names all but PBN.

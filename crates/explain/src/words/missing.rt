@@ -10,7 +10,7 @@ const HOW_TO_SEED: &str = "  hint: for a lesson any number is a good seed: --see
 ";
 
 /// What is perhaps so where a seed has no value.
-const NO_SEED: &str = "a variable may be empty here: write the number of your boards, as --seed 7";
+const NO_SEED: &str = "a variable may be empty here: write the seed of your boards, as --seed 7";
 
 /// How to come to a seed.
 pub(crate) const TO_DRAW: &str = "; to draw one: deals seed";

@@ -11,13 +11,16 @@ const TIP: &str = "\n  tip: ";
 
 const GUESSES: [&str; 2] = ["a similar ", "some similar "];
 
+/// How clap begins a tip for a word that begins with a hyphen: no lesson's name does.
+const AS_A_VALUE: &str = "to pass '";
+
 /// The shortest word in which two letters may differ, and the shortest beginning that says a word.
 const LONG: usize = 6;
 
 const BEGINNING: usize = 3;
 
-/// clap's refusal without a tip that is far from what was tried, and without the usage, which names
-/// the tip's option then; none if there is no such tip.
+/// clap's refusal without a tip that is far from what was tried, or that takes an option for a
+/// value, and without the usage, which names the tip's option then; none if there is no such tip.
 pub fn without_far_tips(alloc: Global, refusal: &str) -> Option<String> {
     let refused = refused::read(refusal)?;
     if !matches!(refused.what, What::Argument | What::Command) {
@@ -25,7 +28,11 @@ pub fn without_far_tips(alloc: Global, refusal: &str) -> Option<String> {
     }
     let (head, rest) = refusal.split_once(TIP)?;
     let (tip, rest) = rest.split_once("\n")?;
-    if !is_guess(tip) || has_close(alloc, refused.word, tip) {
+    if is_guess(tip) {
+        if has_close(alloc, refused.word, tip) {
+            return None;
+        }
+    } else if !tip.starts_with(AS_A_VALUE) {
         return None;
     }
     let (_, end) = rest.rsplit_once("\n\n").unwrap_or(("", rest));

@@ -108,7 +108,7 @@ fn put_lesson(out: &mut String, lesson: &Lesson) -> Result<(), AllocError>
     put_command(out, lesson.name)
 }
 
-/// Returns what is told of this lesson: its sentence, its condition and a command that deals it;
+/// Returns what is told of this lesson: what it shows, its condition and a command that deals it;
 /// without one, the names and titles of all lessons, by groups.
 ///
 /// # Errors
