@@ -18,6 +18,7 @@
 //! | `%tN` | `not ` if `%bN` is `!=` |
 //! | `%vN` | the value that ends with `%bN`; `hcp(north)` where none is |
 //! | `%cN` | a comparison for that value |
+//! | `%oN` | the tests from `%nN` up to the last that names the class `%b1` |
 //! | `%wN` | the word of the call that has the fault |
 //! | `%eN` | what comes after the word `%bN` and a seat; `%e0` of the call |
 //! | `%hN` | the brackets after the name `%bN`; `%h0` of the call |
@@ -26,6 +27,7 @@
 use crate::rules::amounts::{Amount, amount_at, counted_at, ordered};
 use crate::rules::hint::Said;
 use crate::rules::lists::{ENDS, STARTS, THROUGH};
+use crate::rules::outside::tests_that_name;
 use crate::rules::parts::Parts;
 use crate::rules::rule::{fits, without_zeros};
 use crate::rules::samples::{comparison, sample};
@@ -202,8 +204,10 @@ pub(crate) fn is_accepted(alloc: Global, condition: &[u8]) -> Result<bool, Alloc
 fn put(out: &mut Vec<u8>, parts: &Parts, kind: u8, n: usize) -> Result<bool, AllocError> {
     let back = parts.fault.saturating_sub(n);
     let next = parts.fault.saturating_add(n);
-    if kind == b'v' {
-        return put_value(out, parts, back);
+    match kind {
+        b'v' => return put_value(out, parts, back),
+        b'o' => return put_tests(out, parts, next),
+        _ => {}
     }
     let done = match kind {
         b'l' => put_words(out, n),
@@ -308,6 +312,16 @@ fn put_dashed(out: &mut Vec<u8>, digits: &[u8]) -> Result<(), AllocError> {
 
 pub(crate) fn put_number(out: &mut Vec<u8>, number: usize) -> Result<(), AllocError> {
     out.extend_from_slice(Buffer::new().format(number as u64).as_bytes())
+}
+
+/// Appends the tests from the part on that name the class before the fault, if any does.
+fn put_tests(out: &mut Vec<u8>, parts: &Parts, from: usize) -> Result<bool, AllocError> {
+    let class = parts.at(parts.fault.saturating_sub(1));
+    let Some(tests) = tests_that_name(parts, class, from) else {
+        return Ok(false);
+    };
+    out.extend_from_slice(tests)?;
+    Ok(true)
 }
 
 /// Appends the value that ends with the part; if nothing is there, one that could.

@@ -11,9 +11,13 @@ pub(crate) const CLASSES: &str = "suit major minor other";
 /// What goes through a class.
 pub(crate) const THROUGH: &str = "any every";
 
-static LISTS: [(&str, &str); 20] = [
+static LISTS: [(&str, &str); 22] = [
     ("STARTS", STARTS),
     ("ENDS", ENDS),
+    // The classes that any and every go through, of suits and of seats.
+    ("ANY_CLASS", "suit major minor other seat ns ew"),
+    // The signs of the suits.
+    ("SUIT_SIGNS", "\u{2660} \u{2665} \u{2666} \u{2663}"),
     // The suits, and the classes that stand for one.
     (
         "SUITS",
@@ -36,12 +40,12 @@ static LISTS: [(&str, &str); 20] = [
     ("MORE", "more greater higher above up longer better"),
     ("FEWER", "less fewer lower below under shorter"),
     // How a person says that a number counts points.
-    ("POINTS", "points point pts hp hcp"),
+    ("POINTS", "points point pts hp hcp punkte"),
     // What says of a number what it counts: then it isn't a second one for the same value.
     (
         "COUNTED",
         "- spades hearts diamonds clubs spade heart diamond club suit suits card cards hcp point \
-        points pts hp",
+        points pts hp punkte",
     ),
     // Small numbers in words.
     (

@@ -104,6 +104,23 @@ fn end_of_tests(parts: &Parts, class: &[u8], from: usize) -> usize {
     end
 }
 
+/// The tests from the part on up to the last one that names the class, of those beside each other,
+/// as they are written, if one names it and they are a line that a hint repeats. None if an `and`
+/// after them would have bound tighter than an `or` among them.
+pub(crate) fn tests_that_name<'t>(
+    parts: &Parts<'t>,
+    class: &[u8],
+    from: usize,
+) -> Option<&'t [u8]> {
+    let end = end_of_tests(parts, class, from);
+    let is_torn = is(parts.at(end), "and") && has_or(parts, from, end);
+    if end <= from || is_torn {
+        return None;
+    }
+    let tests = parts.written(from, end.saturating_sub(1))?;
+    is_short_line(tests, LONGEST).then_some(tests)
+}
+
 /// The condition with the tests inside the brackets, where it is clear what is meant. In the
 /// brackets of others of its kind it is all of theirs.
 fn moved(alloc: Global, parts: &Parts, found: Outside) -> Result<Option<Vec<u8>>, AllocError> {

@@ -28,6 +28,7 @@ pub(crate) const RULES: &str = "
         say of what, as in %b1 suit (len(north,suit)>=5)
     Can:Open Cannot:Not any|every other ^ suit|suits|major|minor => \
         leave \"%n0\" out, and write other for it in the brackets
+    Can:Open Cannot:Not any|every ANY_CLASS ^ => with the test in brackets write: %b2 %b1 (%o0)
     Can:Open Cannot:Not any|every suit|major|minor|other ^ => \
         say what in brackets, as in %b2 %b1 (len(north,%b1)>=5)
     Can:Open Cannot:Not any|every seat|ns|ew ^ => \
@@ -37,6 +38,7 @@ pub(crate) const RULES: &str = "
     NotInCall ^ suit|major|minor ( Seat ) <|<= => for each %n0 write: every %n0 (len(%n2,%n0)%a4)
     NotInCall ^ suit|major|minor ( Seat ) => for some %n0 write: any %n0 (len(%n2,%n0)%a4)
     NotInCall ^ suit ( Seat , Suit ) => for a suit's length write \"len(%n2,%n4)\"
+    any|every ANY_CLASS ^ : => with the test in brackets write: %b2 %b1 (%o1)
     any|every suit|major|minor|other ^ : => say what in brackets, as in %b2 %b1 (len(north,%b1)>=5)
     NotInCall ^ some|either suit|major|minor => \
         for some %n1 write \"any %n1\", as in any %n1 (len(north,%n1)>=5)
