@@ -11,5 +11,5 @@ pub(crate) static COUNTED: &[(&str, &str, &str)] = &[
     ("cards", ",k", "king kings"),
     ("cards", ",q", "queen queens"),
     ("cards", ",j", "jack jacks"),
-    ("hcp", "", "point points pts"),
+    ("hcp", "", "point points pts punkte"),
 ];

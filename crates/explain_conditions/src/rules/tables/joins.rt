@@ -9,6 +9,7 @@ pub(crate) const RULES: &str = "
     Can:Number Relation Number or ^ Suit Relation Number => \
         for a suit's length write: %v4%b3%b2 or len(%u0,%n0)%n1%n2
     Can:Number ^ Suit => for a suit's length write \"len(%u2,%n0)\"
+    Can:Number Can:Not ^ Seat => begin with what you ask of the seat, as in hcp(%n0)>=15
     Can:Number ^ Seat => begin with what you ask of the seat, as in hcp(%n0)
     Can:Number ^ <> => for \"<>\" write \"!=\"
     Can:Number < ^ > => for \"<>\" write \"!=\"
@@ -41,6 +42,9 @@ pub(crate) const RULES: &str = "
     Can:And Cannot:End ^ Nothing => a \")\" is missing at the end
     Can:And Cannot:Plus ^ == 0 => write \"not\" before this test, and leave \"%n0%n1\" out
     Can:And Cannot:Plus ^ < 1 => write \"not\" before this test, and leave \"%n0%n1\" out
+    Can:And Cannot:Plus balanced ( Seat ) ^ + balanced ( Seat ) ENDS => \
+        for both hands write: balanced(%b2) and balanced(%n3)
+    Can:And Cannot:Plus ^ + => join the tests with \"and\" or \"or\"
     Can:And Cannot:Plus ^ Relation => this test is whole, and needs no comparison
     Can:And ^ , => for \",\" write \"and\"
     Can:And ^ Word => join the tests with \"and\" or \"or\"

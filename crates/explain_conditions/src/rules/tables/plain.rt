@@ -15,6 +15,14 @@ pub(crate) const RULES: &str = "
     Seat ^ HAS Counted Any or MORE => with the seat in brackets write: %k1(%b1%s1)>=%n1
     Seat ^ HAS Counted Any or FEWER => with the seat in brackets write: %k1(%b1%s1)<=%n1
     Seat ^ HAS Counted Any max|maximum => with the seat in brackets write: %k1(%b1%s1)<=%n1
+    NotInCall Seat ^ : Number - Number POINTS ,|and balanced => \
+        with the seat in brackets write: hcp(%b1)%a1 and balanced(%b1)
+    NotInCall Seat ^ : Number + POINTS ,|and balanced => \
+        with the seat in brackets write: hcp(%b1)>=%n1 and balanced(%b1)
+    NotInCall Seat ^ : Number + POINTS Except:( => \
+        with the seat in brackets write: hcp(%b1)>=%n1
+    NotInCall Seat ^ : balanced => with the seat in brackets write: balanced(%b1)
+    NotInCall Seat ^ : Counted => with the seat in brackets write: %k1(%b1%s1)%a1
     balanced ( Seat ) ^ plus => write \"and\"
     balanced ( Seat ^ , Amount => with a test for the points write: balanced(%b1) and hcp(%b1)%a1
     balanced ^ hand => say whose, as in balanced(north)

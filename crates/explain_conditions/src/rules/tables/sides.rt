@@ -9,6 +9,24 @@ pub(crate) const RULES: &str = "
         for both together write \"%w0(north)+%w0(south)\", for each a test of its own
     In:MEASURES ( ^ Named:e -|/|+|& w|W ) => \
         for both together write \"%w0(east)+%w0(west)\", for each a test of its own
+    In:MEASURES ( ^ Named:n , s|S ) => \
+        for both together write \"%w0(north)+%w0(south)\", for one suit \"%w0(north,spades)\"
+    In:MEASURES ( ^ Named:s , n|N ) => \
+        for both together write \"%w0(south)+%w0(north)\", for each a test of its own
+    In:MEASURES ( ^ Named:e , w|W ) => \
+        for both together write \"%w0(east)+%w0(west)\", for each a test of its own
+    In:MEASURES ( ^ Named:w , e|E ) => \
+        for both together write \"%w0(west)+%w0(east)\", for each a test of its own
+    In:MEASURES ( east|south|west , ^ Named:n ) => \
+        for both together write \"%w0(%b2)+%w0(north)\", for each a test of its own
+    In:MEASURES ( north|south|west , ^ Named:e ) => \
+        for both together write \"%w0(%b2)+%w0(east)\", for each a test of its own
+    In:MEASURES ( north|east|south , ^ Named:w ) => \
+        for both together write \"%w0(%b2)+%w0(west)\", for each a test of its own
+    In:MEASURES ( ^ Named:both ) => \
+        for both together write \"%w0(north)+%w0(south)\", for each a test of its own
+    In:MEASURES|len ( ^ Named:both , SUITS ) => \
+        for both together write \"%w0(north,%n2)+%w0(south,%n2)\", for each a test of its own
     In:MEASURES ( Seat ^ -|/|&|and Seat ) => \
         for both together write \"%w0(%b1)+%w0(%n1)\", for each a test of its own
     In:MEASURES ( Seat ^ Seat ) => \
@@ -34,7 +52,7 @@ pub(crate) const RULES: &str = "
         for both together write \"cards(east,%n2,%n4)+cards(west,%n2,%n4)\", for either put \
         your test in any ew (..)
 
-    In:balanced ( ^ Named:ns|northsouth ) => \
+    In:balanced ( ^ Named:ns|northsouth|both ) => \
         for both hands write: balanced(north) and balanced(south)
     In:balanced ( ^ Named:ew|eastwest ) => for both hands write: balanced(east) and balanced(west)
     In:balanced ( Seat ^ -|/|&|and Seat ) => for both hands write: balanced(%b1) and balanced(%n1)
@@ -54,6 +72,8 @@ pub(crate) const RULES: &str = "
         for the seat before north write right(north), as in %w0(right(north)%e0
     InCall ( ^ Named:partner|partners|pard => \
         for the seat across from north write partner(north), as in %w0(partner(north)%e0
+    Can:Not NotInCall ^ partner|left|right => \
+        begin with what you ask of the seat, as in hcp(%n0(north))>=15
     NotInCall ^ partner|left|right => begin with what you ask of the seat, as in hcp(%n0(north))
     InCall ( ^ seat => \
         seat goes in the brackets of any or every, as in any seat (hcp(seat)>=20)

@@ -38,7 +38,11 @@ pub(crate) const RULES: &str = "
     ^ ? => \
         for one test or another write both, as in balanced(north) and hcp(north)>=15 or not \
         balanced(north) and hcp(north)>=12
-    Seat ^ . => begin with what you ask of the seat, as in hcp(%b1)
+    Count ^ . Seat => write \"%b1(%n1%e1\"
+    balanced ^ . Seat => write \"balanced(%n1)\"
+    NotInCall Seat ^ .|: MEASURES|ORDERS Amount => with the seat in brackets write: %n1(%b1)%a2
+    NotInCall Seat ^ . balanced => with the seat in brackets write: balanced(%b1)
+    NotInCall Seat ^ .|: => begin with what you ask of the seat, as in hcp(%b1)>=15
     ^ / / => for a comment write \"#\"
     ^ \"|'|` => leave the quotes out
 ";
