@@ -10,12 +10,31 @@ pub(crate) const RULES: &str = "
         say what the hand has, as in hcp(north) in 6-10 and any suit (len(north,suit)==6)
     ^ preempt|preempts|preemptive => \
         say what the hand has, as in hcp(north) in 6-10 and any suit (len(north,suit)>=7)
-    ^ opens|open|opening|opener|bids|bid|pass|passes|passed => \
-        there is no bidding: say what the hand has, as in hcp(north)
+    ^ pass|passes|passed => there is no bidding: say what the hand has, as in hcp(%u2)<=11
+    ^ opens|open|opening|opener|bids|bid => \
+        there is no bidding: say what the hand has, as in hcp(%u2) in 15-17 and balanced(%u2)
     Nothing Number ^ Named:c|d|h|s|n|nt|sa => \
-        there is no bidding: say what the hand has, as in hcp(north)
+        there is no bidding: say what the hand has, as in hcp(%u2) in 15-17 and balanced(%u2)
     Seat Number ^ Named:c|d|h|s|n|nt|sa => \
-        there is no bidding: say what the hand has, as in hcp(north)
+        there is no bidding: say what the hand has, as in hcp(%u2) in 15-17 and balanced(%u2)
+    Nothing 1|2|3|4|5|6|7 ^ Begins:SUIT_SIGNS => \
+        there is no bidding: say what the hand has, as in hcp(%u2) in 15-17 and balanced(%u2)
+    Seat 1|2|3|4|5|6|7 ^ Begins:SUIT_SIGNS => \
+        there is no bidding: say what the hand has, as in hcp(%u2) in 15-17 and balanced(%u2)
+    STARTS Number ^ Named:nt|notrump|sa => \
+        there is no bidding: say what the hand has, as in hcp(%u2) in 15-17 and balanced(%u2)
+    STARTS Number ^ Named:no trump => \
+        there is no bidding: say what the hand has, as in hcp(%u2) in 15-17 and balanced(%u2)
+    NotInCall ^ Named:nt |)|and|or|hand|opening|opener|range => \
+        for a notrump hand write: hcp(%u2) in 15-17 and balanced(%u2)
+    NotInCall ^ Named:nt ( Seat ) => \
+        for a notrump hand write: hcp(%n2) in 15-17 and balanced(%n2)
+    NotInCall ^ Named:notrump|notrumps => \
+        for a notrump hand write: hcp(%u2) in 15-17 and balanced(%u2)
+    NotInCall ^ Named:no trump|trumps|Trump|Trumps|TRUMP|TRUMPS => \
+        for a notrump hand write: hcp(%u3) in 15-17 and balanced(%u3)
+    NotInCall ^ Named:no - trump|trumps|Trump|Trumps|TRUMP|TRUMPS => \
+        for a notrump hand write: hcp(%u4) in 15-17 and balanced(%u4)
     ^ quality => for a suit's quality count its honours, as in cards(north,spades,akq)
     ^ stopper|stop|stopped|guard ( Seat , Suit ) => \
         in the language's own words write: stops(%n2,%n4)
