@@ -34,7 +34,7 @@ pub(crate) fn name_hint(alloc: Global, parts: &Parts) -> Said {
 /// The word at fault in small letters, if it has several.
 fn fault_of<'p>(parts: &'p Parts) -> Option<&'p str> {
     let text = str::from_utf8(parts.word.as_slice()).ok()?;
-    let is_word = text.len() > 1 && text.as_bytes()[0].is_ascii_lowercase();
+    let is_word = text.len() > 1 && text.as_bytes()[0].is_ascii_lowercase() && !parts.is_cut();
     is_word.then_some(text)
 }
 

@@ -289,6 +289,13 @@ impl<'t> Parts<'t> {
         from == self.range(i.saturating_sub(1)).1 && to != self.range(i.saturating_add(1)).0
     }
 
+    /// Whether the word with the fault goes on with a letter that isn't ASCII, as in `cœur`.
+    pub(crate) fn is_cut(&self) -> bool {
+        let next = self.fault.saturating_add(1);
+        let is_letter = matches!(self.at(next), [0xC3..=0xC5, ..]);
+        is_letter && self.range(self.fault).1 == self.range(next).0
+    }
+
     /// Where the value begins that ends with this part. After the part, if none does.
     pub(crate) fn value_start(&self, last: usize) -> usize {
         let mut depth: usize = 0;

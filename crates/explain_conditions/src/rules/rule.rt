@@ -12,7 +12,7 @@
 //! | `InCall`, `NotInCall` | it is in the brackets of a word that takes a seat, or of none |
 //! | `InCount` | it is in the brackets of a word that counts something |
 //! | `T`, `Except:T` | one of the texts T, or none of them |
-//! | `Named:T` | the part with the fault is one of them, in letters of any size |
+//! | `Named:T` | the part with the fault is one of them, in letters of any size, and a whole word |
 //! | `Begins:T` | it begins with one of them |
 //! | `Nothing`, `Any` | no part: the text begins or ends there; any part, or none |
 //! | `Number`, `Digits:N` | a number, or one of N digits |
@@ -136,7 +136,7 @@ fn is_wanted(parts: &Parts, i: usize, word: &str) -> bool {
         "NotInCall" => !is_call(parts.call()),
         "InCount" => is_count(parts.call()),
         "Except" => !is_among(part, texts),
-        "Named" => is_among(parts.word.as_slice(), texts),
+        "Named" => !parts.is_cut() && is_among(parts.word.as_slice(), texts),
         "Begins" => begins_with(part, texts),
         "Nothing" => part.is_empty(),
         "Any" => true,

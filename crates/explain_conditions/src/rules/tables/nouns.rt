@@ -4,7 +4,7 @@ pub(crate) const RULES: &str = "
     Relation ^ Named:NUMBERS => write the number in digits, as in hcp(north)>=15
     in ^ Named:NUMBERS => write the number in digits, as in hcp(north)>=15
     NotInCall ^ Named:hpc|hcps|hpcs|punkte|pkt|fp => write \"hcp\"
-    NotInCall ^ Named:bal|balance|flat => write \"balanced\"
+    NotInCall ^ Named:bal|balance|flat|ausgeglichen => write \"balanced\"
     NotInCall ^ Named:semibalanced => \
         for semi-balanced write: balanced(%u2) or pattern(%u2,5-4-2-2) or pattern(%u2,6-3-2-2)
     NotInCall ^ Named:semi - balanced => \
@@ -20,13 +20,19 @@ pub(crate) const RULES: &str = "
         for a suit's length write \"len(%n2,diamonds)\"
     NotInCall ^ Named:c|club|treff|kreuz|trefle|trefles ( Seat => \
         for a suit's length write \"len(%n2,clubs)\"
+    NotInCall ^ c|C Begins:\u{153} ur|urs ( Seat => \
+        for a suit's length write \"len(%n4,hearts)\"
+    NotInCall ^ tr|Tr Begins:\u{E8} fle|fles ( Seat => \
+        for a suit's length write \"len(%n4,clubs)\"
+    NotInCall ^ tr|Tr Begins:\u{E8} fle|fles => \
+        for a suit's length write len, as in len(north,clubs)
     NotInCall ^ Named:s|spade|pik|pique|piques ( => \
         for a suit's length write len, as in len(north,spades)
     NotInCall ^ Named:h|heart|herz|coeur|coeurs ( => \
         for a suit's length write len, as in len(north,hearts)
     NotInCall ^ Named:d|diamond|karo|carreau|carreaux ( => \
         for a suit's length write len, as in len(north,diamonds)
-    NotInCall ^ Named:club|treff|kreuz|trefle|trefles|tr Except:|) => \
+    NotInCall ^ Named:club|treff|kreuz|trefle|trefles Except:|) => \
         for a suit's length write len, as in len(north,clubs)
     ^ Named:average|avg|mean|frequency|count|probability => \
         to count deals, or for an average: deals count --of

@@ -22,6 +22,8 @@ pub(crate) const RULES: &str = "
     NotInCall ^ rnd|rand|random ( => a condition asks of the four hands alone, and not of the board
     NotInCall ^ quiet|milton ( => \
         the file standard.names gives such names: --let \"$(cat standard.names)\"
-    ^ neither => for neither write \"not\", as in not (balanced(north) or balanced(south))
-    InCall Except:( ^ Named:trump|trumps => name the suit: spades, hearts, diamonds or clubs
+    NotInCall ^ neither|nor => \
+        for neither write \"not\", as in not (balanced(north) or balanced(south))
+    InCall Except:( ^ Named:trump|trumps|nt|notrump => \
+        name the suit: spades, hearts, diamonds or clubs
 ";

@@ -12,6 +12,18 @@ pub(crate) const RULES: &str = "
         in the brackets of any suit write \"every other (%w0(%b2,other)%x3)\"
     Can:MajorClass Seat , ^ suit|suits => in these brackets write \"major\"
     Can:MinorClass Seat , ^ suit|suits => in these brackets write \"minor\"
+    InCount NotIn:cards|ORDERS Seat , ^ Named:oberfarbe|oberfarben|majeure|majeures ) <|<= => \
+        for each major write: every major (%w0(%b2,major)%x2)
+    In:stops Seat , ^ Named:oberfarbe|oberfarben|majeure|majeures => \
+        for some major write: any major (stops(%b2,major))
+    InCount NotIn:cards|ORDERS Seat , ^ Named:oberfarbe|oberfarben|majeure|majeures => \
+        for some major write: any major (%w0(%b2,major)%x2)
+    InCount NotIn:cards|ORDERS Seat , ^ Named:unterfarbe|unterfarben|mineure|mineures ) <|<= => \
+        for each minor write: every minor (%w0(%b2,minor)%x2)
+    In:stops Seat , ^ Named:unterfarbe|unterfarben|mineure|mineures => \
+        for some minor write: any minor (stops(%b2,minor))
+    InCount NotIn:cards|ORDERS Seat , ^ Named:unterfarbe|unterfarben|mineure|mineures => \
+        for some minor write: any minor (%w0(%b2,minor)%x2)
     InCount NotIn:cards|ORDERS Seat , ^ suit|major|minor ) <|<= => \
         for each %n0 write: every %n0 (%w0(%b2,%n0)%x2)
     In:len Seat , ^ suit ) >= 1|2|3 => for each suit write: every suit (len(%b2,suit)%x2)
