@@ -21,5 +21,15 @@ pub(crate) const RULES: &str = "
     Value ^ not Number - Number => with \"not\" first write: not %v1%a1
     Call ^ not Relation Number => with \"not\" first write: not %v1%n1%n2
     Call ^ not Number => for another number write: %v1!=%n1
+    Call ^ - Count ( Any ) Relation 0 ENDS => \
+        there is no \"-\" of values, so write: %v1%n5%n1(%n3)
+    Call ^ - Count ( Any ) Relation Number ENDS => \
+        there is no \"-\" of values, so write: %v1%n5%n1(%n3)+%n6
+    Call ^ - Count ( Any , Any ) Relation 0 ENDS => \
+        there is no \"-\" of values, so write: %v1%n7%n1(%n3,%n5)
+    Call ^ - Count ( Any , Any ) Relation Number ENDS => \
+        there is no \"-\" of values, so write: %v1%n7%n1(%n3,%n5)+%n8
+    Can:End Can:Relation Call ^ - Count => \
+        there is no \"-\" of values: deals count --of takes one, and --by the other
     Value ^ - => there is no \"-\" of values: add to the other side, as in hcp(north)>=hcp(south)+5
 ";

@@ -5,6 +5,8 @@ pub(crate) const RULES: &str = "
     ^ = Number - Number => for a range write: %v1%a0
     ^ = Number . . Number => for a range write: %v1 in %r4
     ^ = Number to|bis Number => for a range write: %v1 in %r3
+    in Number - Above ^ - => a range has two ends, as in %v5 in %b3-%b1
+    in Number - Number ^ - => a range has two ends, as in hcp(north) in 15-17
     Relation Number ^ Number - => join the tests with \"and\" or \"or\"
     Value ^ Number - Number => for a range write: %v1%a0
     Value ^ : Amount => without \":\" write: %v1%a1

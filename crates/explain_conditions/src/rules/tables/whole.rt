@@ -22,6 +22,7 @@ pub(crate) const RULES: &str = "
         for both ways round write: shape(%b2,x-x-%n3-%n5) or shape(%b2,x-x-%n5-%n3)
     In:len Seat , ^ minors ) EQUAL Number - Number => \
         for both ways round write: shape(%b2,x-x-%n3-%n5) or shape(%b2,x-x-%n5-%n3)
+    NotInCall Call ^ by Count => deals count --of takes one, and --by the other
     Can:End NotInCall Call ^ , Count => ask one thing here, and the other by --by
     Nothing ^ Named:average|avg|mean Count => \
         leave \"%n0\" out: deals count --of has the mean below its table
