@@ -28,11 +28,14 @@ TIMES = 10 if report.has("many") else 1
 NEVER = "note: no deal meets this condition"
 MIXED = 'note: "and" binds first: A and B or C is (A and B) or C; brackets would say so\n'
 UNNAMED = 'note: "{0}" isn\'t named in the brackets of "{1} {0}", so that it asks the same each time\n'
+MISCOUNTED = "note: {0} is {1}, and a hand has 13\n"
 NOTES = {
     "silent": "",
     "binds first": MIXED.replace("\n", "\r\n"),
     "suit isn't named": UNNAMED.format("suit", "any").replace("\n", "\r\n"),
     "ew isn't named": UNNAMED.format("ew", "every").replace("\n", "\r\n"),
+    "14 cards": MISCOUNTED.format("5-3-3-3", "14 cards").replace("\n", "\r\n"),
+    "14 cards or more": MISCOUNTED.format("7-7-x-x", "14 cards or more").replace("\n", "\r\n"),
     "by its numbers alone": f"{NEVER}, by its numbers alone\r\n",
     "write in 12-14": f"{NEVER}: in 14-12 has its ends turned; write in 12-14\r\n",
 }
@@ -73,6 +76,19 @@ def is_mixed(tokens):
     return mixed or any(is_mixed(token) for token in tokens if isinstance(token, list))
 
 
+def miscounted(text):
+    """The note on the first shape or pattern whose lengths aren't thirteen cards, or nothing; lengths over several lines
+    have none."""
+    for found in re.finditer(r"\b(?:shape|pattern)\b[^,]*,\s*((?:\w+\s*-\s*){3}\w+)", text):
+        lengths = re.findall(r"\w+", found.group(1))
+        is_open = "x" in lengths
+        cards = sum(int(length) for length in lengths if length != "x")
+        if cards > 13 or cards < 13 and not is_open:
+            is_line = re.fullmatch(r"[ -~]{,40}", found.group(1))
+            return MISCOUNTED.format(found.group(1), f"{cards} cards{' or more' * is_open}") if is_line else ""
+    return ""
+
+
 def slip(condition):
     """The note on a slip in a condition that is accepted, or nothing."""
     text = re.sub(r"#[^\n]*", "", condition)
@@ -80,7 +96,7 @@ def slip(condition):
     for one, name, inside in through(tokens):
         if is_unnamed(name, inside):
             return UNNAMED.format(name, one)
-    return MIXED if is_mixed(tokens) else ""
+    return miscounted(text) or (MIXED if is_mixed(tokens) else "")
 
 
 def words(condition, *more):

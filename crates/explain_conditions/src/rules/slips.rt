@@ -3,7 +3,8 @@
 use crate::rules::kinds::Kinds;
 use crate::rules::lists::{CLASSES, THROUGH};
 use crate::rules::parts::Parts;
-use crate::rules::words::{depth_after, is, is_one_of};
+use crate::rules::words::{depth_after, is, is_one_of, is_short_line, number};
+use itoa::Buffer;
 use std::alloc::{AllocError, Global};
 
 /// The note on tests joined by `and` and by `or` with no brackets that say which go together.
@@ -13,9 +14,15 @@ const MIXED: &str =
 /// What is said of a class that its brackets don't name.
 const UNNAMED: &str = ", so that it asks the same each time\n";
 
+/// How many cards a hand has.
+const HAND: usize = 13;
+
+/// The longest lengths that a note repeats.
+const LONGEST: usize = 40;
+
 /// Returns the note on a condition that is accepted, a line with its end, if it has a slip: an
-/// `any` or `every` whose class isn't named in its brackets, or `and` and `or` beside each other
-/// without brackets.
+/// `any` or `every` whose class isn't named in its brackets, a shape or a pattern whose lengths
+/// aren't thirteen cards, or `and` and `or` beside each other without brackets.
 ///
 /// # Errors
 /// `AllocError` if an allocation failed.
@@ -25,6 +32,9 @@ pub fn slip(alloc: Global, condition: &[u8]) -> Result<Option<String>, AllocErro
         if let Some(said) = unnamed(alloc, &parts, start)? {
             return Ok(Some(said));
         }
+    }
+    if let Some(said) = miscounted(alloc, &parts)? {
+        return Ok(Some(said));
     }
     if !is_mixed(&parts) {
         return Ok(None);
@@ -80,6 +90,75 @@ fn has_class(parts: &Parts, open: usize, class: &[u8]) -> bool {
         }
     }
     false
+}
+
+/// What is said of the first shape or pattern whose lengths no hand has, by their sum.
+fn miscounted(alloc: Global, parts: &Parts) -> Result<Option<String>, AllocError> {
+    for word in 1..parts.count() {
+        if !is_one_of(parts.at(word), "shape pattern") {
+            continue;
+        }
+        let first = after_comma(parts, word);
+        let last = first.saturating_add(6);
+        let cards = cards_of(parts, first);
+        let is_open = has_open_length(parts, first);
+        if cards > HAND || cards < HAND && !is_open {
+            let lengths = parts.written(first, last).unwrap_or(b"");
+            return said_of_lengths(alloc, lengths, cards, is_open);
+        }
+    }
+    Ok(None)
+}
+
+/// The part after the first comma from a part on, or the end.
+fn after_comma(parts: &Parts, from: usize) -> usize {
+    for i in from..parts.count() {
+        if is(parts.at(i), ",") {
+            return i.saturating_add(1);
+        }
+    }
+    parts.count()
+}
+
+/// How many cards the four lengths are together that begin with the part, with a sign between two.
+fn cards_of(parts: &Parts, first: usize) -> usize {
+    let mut cards: usize = 0;
+    for after in [0, 2, 4, 6] {
+        let length = parts.at(first.saturating_add(after));
+        if !is(length, "x") {
+            cards = cards.saturating_add(number(length));
+        }
+    }
+    cards
+}
+
+/// Whether one of these lengths may be any.
+fn has_open_length(parts: &Parts, first: usize) -> bool {
+    [0, 2, 4, 6]
+        .iter()
+        .any(|after| is(parts.at(first.saturating_add(*after)), "x"))
+}
+
+/// The note on lengths that are so many cards, if they are one short line.
+fn said_of_lengths(
+    alloc: Global,
+    lengths: &[u8],
+    cards: usize,
+    is_open: bool,
+) -> Result<Option<String>, AllocError> {
+    if !is_short_line(lengths, LONGEST) {
+        return Ok(None);
+    }
+    let Ok(lengths) = str::from_utf8(lengths) else {
+        return Ok(None);
+    };
+    let mut said = String::from_str(alloc, "note: ")?;
+    said.push_str(lengths)?;
+    said.push_str(" is ")?;
+    said.push_str(Buffer::new().format(cards as u64))?;
+    said.push_str(if is_open { " cards or more" } else { " cards" })?;
+    said.push_str(", and a hand has 13\n")?;
+    Ok(Some(said))
 }
 
 /// Whether `and` and `or` join tests beside each other.
