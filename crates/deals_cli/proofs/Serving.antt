@@ -18,7 +18,7 @@ use Rattle.jobs.specs.declared.count_job.CountJob.{CountJob}
 use Rattle.jobs.specs.declared.job.PickJob.{PickJob}
 use Rattle.jobs.specs.declared.job.Job.TheVariants.{Boards, Conditions, Count, Lessons, Pick, Seed, Stream}
 use Rattle.boards.specs.declared.report.Report.{Report}
-use Rattle.requests.specs.declared.request.StreamRequest.{StreamRequest}
+use Rattle.requests.specs.declared.stream.StreamRequest.{StreamRequest}
 use Rattle.deals_cli.specs.internal.Ends.{EndsBoards, EndsCount, EndsDraw, EndsPicking, EndsReady}
 use Rattle.deals_cli.specs.WithTricks.{BreaksTold, FailsTold, StopsAtLine}
 use Rattle.input.specs.declared.refused_line.RefusedLine.{RefusedLine}

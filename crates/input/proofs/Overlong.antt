@@ -1,9 +1,10 @@
 -- A line may go on until it is too long, so that no board comes after what was read.
-use Rattle.std.proofs.Common.{◌≡◌, ◌∙◌, ◌≤◌, ◌<◌, ◌==◌, ℕ, suc, zero, ◌+◌, Bool, true, false, List, [], ◌∷◌, replicate, nat_lt}
-use Rattle.std.proofs.Common.{ap, arith, refl, sym, subst, if◌then◌else◌}
+use Rattle.std.proofs.Common.{◌≡◌, ◌≤◌, ◌<◌, ◌==◌, ◌&&◌, ◌||◌, ℕ, suc, zero, ◌+◌, Bool, true, false, not, List, []}
+use Rattle.std.proofs.Common.{◌∷◌, ◌++◌, replicate, nat_lt}
+use Rattle.std.proofs.Common.{arith, refl, if◌then◌else◌}
 use Rattle.std.proofs.lemmas.Bool.{ltb-true}
 use Rattle.input.specs.NumberTexts.{is_blank}
-use Rattle.input.specs.Places.{Place, is_name_byte, moved, opened, place_after, step_at}
+use Rattle.input.specs.Places.{Place, moved, opened, place_after, step_at}
 use Rattle.input.specs.RecordScans.{spells_from}
 use Rattle.input.specs.Texts.{MayEnd, Spelled, reads_byte, refused_at, steps}
 use Rattle.input.specs.declared.records.fault.RecordFault.TheVariants.{TooLong}
@@ -21,19 +22,53 @@ either : (test : Bool) (a b : Place) (n : ℕ) → a.column ≡ n → b.column �
 either true a b n left right = left
 either false a b n left right = right
 
+abbrev unless_blank : Place → ℕ → Place
+unless_blank p b = if is_blank b then p else record p { skips = true }
+
+abbrev from_bracket : Place → ℕ → Place
+from_bracket p b =
+    if b == 91 && (p.column == 1 || not p.skips) then record p { part = Bracket; skips = false }
+    else unless_blank p b
+
+abbrev from_semicolon : Place → ℕ → Place
+from_semicolon p b = if b == 59 then record p { part = Rest } else from_bracket p b
+
+abbrev from_brace : Place → ℕ → Place
+from_brace p b = if b == 123 then record p { comment = true } else from_semicolon p b
+
+abbrev from_comment : Place → ℕ → Place
+from_comment p b = if p.comment then record p { comment = not (b == 125) } else from_brace p b
+
 opened_column : (p : Place) (b : ℕ) → (opened p b).column ≡ p.column
-opened_column p b = either _ _ _ _ refl (either _ _ _ _ refl (either _ _ _ _ refl (either _ _ _ _ refl
-    (either _ _ _ _ refl (either _ _ _ _ refl refl)))))
+opened_column p b =
+    either (p.column == 1 && b == 37) (record p { part = Rest }) (from_comment p b) p.column refl
+    (either p.comment (record p { comment = not (b == 125) }) (from_brace p b) p.column refl
+    (either (b == 123) (record p { comment = true }) (from_semicolon p b) p.column refl
+    (either (b == 59) (record p { part = Rest }) (from_bracket p b) p.column refl
+    (either (b == 91 && (p.column == 1 || not p.skips)) (record p { part = Bracket; skips = false }) (unless_blank p b) p.column refl
+    (either (is_blank b) p (record p { skips = true }) p.column refl refl)))))
+
+abbrev in_name : Place → ℕ → Place
+in_name p b = if is_blank b then record p { part = Gap } else record p { name = p.name ++ b ∷ [] }
+
+abbrev in_value : Place → ℕ → Place
+in_value p b =
+    if b == 92 then record p { part = Escape; value = p.value ++ b ∷ [] }
+    else record p { value = p.value ++ b ∷ [] }
 
 moved_column : (part : LinePart) (p : Place) (b : ℕ) → (moved part p b).column ≡ p.column
 moved_column Open p b = opened_column p b
 moved_column Rest p b = refl
 moved_column Bracket p b = refl
-moved_column Name p b = either _ _ _ _ refl (either _ _ _ _ refl refl)
-moved_column Gap p b = either _ _ _ _ refl refl
-moved_column Value p b = either _ _ _ _ refl (either _ _ _ _ refl refl)
+moved_column Name p b =
+    either (b == 34) (record p { part = Value; value = [] }) (in_name p b) p.column refl
+    (either (is_blank b) (record p { part = Gap }) (record p { name = p.name ++ b ∷ [] }) p.column refl refl)
+moved_column Gap p b = either (b == 34) (record p { part = Value; value = [] }) p p.column refl refl
+moved_column Value p b =
+    either (b == 34) (record p { part = Close }) (in_value p b) p.column refl
+    (either (b == 92) (record p { part = Escape; value = p.value ++ b ∷ [] }) (record p { value = p.value ++ b ∷ [] }) p.column refl refl)
 moved_column Escape p b = refl
-moved_column Close p b = either _ _ _ _ refl refl
+moved_column Close p b = either (b == 93) (record p { part = Open }) p p.column refl refl
 
 -- ---- no byte but `]` ends a tag
 
@@ -56,7 +91,7 @@ stepped Close b s next within none = rw within (on_or_wrong (is_blank b) s next 
 -- ---- bytes up to the last column
 
 -- what is read after a byte
-after_byte : Reading → ℕ → Reading
+abbrev after_byte : Reading → ℕ → Reading
 after_byte s b = record s { line = place_after s.line b }
 
 byte_by : (fits : Bool) (s : Reading) (b : ℕ) (next : Reading → Spelled) → (b == 93) ≡ false

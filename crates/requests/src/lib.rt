@@ -21,6 +21,7 @@ mod names;
 mod questions;
 mod request;
 mod search;
+mod stream;
 mod when;
 mod workers;
 
@@ -30,7 +31,8 @@ pub use hands::PredealtHands;
 pub use look::Look;
 pub use names::{LabelName, QuestionName};
 pub use questions::{MAX_QUESTIONS, Questions, Texts};
-pub use request::{Notices, Request, StreamRequest};
+pub use request::{Notices, Request};
 pub use search::Search;
+pub use stream::StreamRequest;
 pub use when::{TIMES, When};
 pub use workers::Workers;

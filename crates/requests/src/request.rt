@@ -1,6 +1,6 @@
 //! The requests: one variant for each subcommand.
 
-ghost use Rattle.std.specs.Prelude.{◌≡◌, ◌≤◌, ◌^◌, option_map};
+ghost use Rattle.std.specs.Prelude.{◌≡◌, option_map};
 ghost use Rattle.requests.specs.Requests.{hints_of, look_of, search_of, searched, wish_of};
 
 use crate::hands::PredealtHands;
@@ -9,6 +9,7 @@ use crate::look::Look;
 use crate::names::QuestionName;
 use crate::questions::Questions;
 use crate::search::Search;
+use crate::stream::StreamRequest;
 use crate::when::When;
 use boards::{Format, TableStyle};
 
@@ -21,14 +22,6 @@ pub struct Notices {
     pub progress: When,
     /// When a person is told what helps: below a refusal, and in notes on a run.
     pub hints: When,
-}
-
-/// The first `count` values of a seed, at most 2^40.
-#[derive(Clone, Copy)]
-pub struct StreamRequest {
-    pub seed: u32,
-    pub count: u64,
-    ghost few: { count ≤ 2 ^ 40 },
 }
 
 /// What is asked for.
