@@ -158,6 +158,8 @@ def begun(_):
 OTHERS = [
     (["--where", "hcp(north)>=0"], b"of another search, for this one name another f"),
     (["--boards", "3"], b"leave --boards out"),
+    (["-n", "3"], b"leave -n out"),
+    (["-n3"], b"leave -n3 out"),
     (["--first=2"], b"leave --first out"),
     (["--workers", "2", "--lane=8", "--hints", "always"], None),
 ]
