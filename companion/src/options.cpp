@@ -23,7 +23,7 @@ where the board has a dealer and a vulnerability, the side and the score of par,
 
 With rules it writes the boards that meet all of them, as it read them:
 
-    --makes 4S-NS     a contract that some declarer of N, E, S, W, NS or EW makes
+    --makes 4S-NS     a contract that some declarer of N, E, S, W, NS or EW makes; notrump is NT or N
     --beaten 3NT-NS   a contract that none of them makes
     --tricks S-N=10   some declarer takes so many tricks; >=10 and <=10: at least, at most
     --boards M        ends after M boards

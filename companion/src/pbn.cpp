@@ -15,6 +15,11 @@ bool is_blank(const std::string &text, size_t length) {
     return std::min(text.find_first_not_of(BLANKS), text.size()) >= length;
 }
 
+// Whether something follows a carriage return, as in a text whose lines end with these alone.
+bool has_lines(const std::string &line) {
+    return line.find_first_not_of(BLANKS, line.find('\r')) != std::string::npos;
+}
+
 // The quote that ends a value. A backslash takes away what the sign after it means.
 size_t end_of_value(const std::string &line, size_t at) {
     while (at < line.size() && line[at] != '"')
@@ -83,7 +88,7 @@ void PbnReader::read_line(const std::string &line) {
     kept = 0;
     const bool is_empty = !comment && is_blank(line, line.size());
     const bool is_escaped = !comment && line[0] == '%';
-    has_text = has_text || !(is_empty || is_escaped);
+    has_text = has_text || !(is_empty || is_escaped) || has_lines(line);
     if (!is_empty && !is_escaped)
         read_tags(line);
     keep(line, line.size());

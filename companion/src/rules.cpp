@@ -7,17 +7,18 @@
 namespace {
 
 constexpr int BOOK = 6, ALL = 13;
-const std::map<std::string, int> STRAIN_WORDS = {{"S", 0}, {"H", 1}, {"D", 2}, {"C", 3}, {"NT", 4}};
+const std::map<std::string, int> STRAIN_WORDS = {{"S", 0}, {"H", 1}, {"D", 2}, {"C", 3}, {"N", 4}, {"NT", 4}};
 const std::map<std::string, std::vector<int>> DECLARER_WORDS = {
     {"N", {0}}, {"E", {1}}, {"S", {2}}, {"W", {3}}, {"NS", {0, 2}}, {"EW", {1, 3}}};
 
 } // namespace
 
-const char *const CONTRACT_FORM = "write a level 1 to 7, C, D, H, S or NT, -, and N, E, S, W, NS or EW: 4S-NS";
-const char *const TRICKS_FORM = "write C, D, H, S or NT, -, N, E, S, W, NS or EW, then =, >= or <= and 0 to 13: S-N=10";
+const char *const CONTRACT_FORM = "write a level 1 to 7, C, D, H, S, N or NT, -, and N, E, S, W, NS or EW: 4S-NS";
+const char *const TRICKS_FORM =
+    "write C, D, H, S, N or NT, -, N, E, S, W, NS or EW, then =, >= or <= and 0 to 13: S-N=10";
 
 std::optional<Rule> read_makes(const std::string &text) {
-    static const std::regex form("([1-7])(C|D|H|S|NT)-(N|E|S|W|NS|EW)");
+    static const std::regex form("([1-7])(C|D|H|S|NT?)-(N|E|S|W|NS|EW)");
     std::smatch part;
     if (!std::regex_match(text, part, form))
         return std::nullopt;
@@ -32,7 +33,7 @@ std::optional<Rule> read_beaten(const std::string &text) {
 }
 
 std::optional<Rule> read_tricks(const std::string &text) {
-    static const std::regex form("(C|D|H|S|NT)-(N|E|S|W|NS|EW)(=|>=|<=)([0-9]|1[0-3])");
+    static const std::regex form("(C|D|H|S|NT?)-(N|E|S|W|NS|EW)(=|>=|<=)([0-9]|1[0-3])");
     std::smatch part;
     if (!std::regex_match(text, part, form))
         return std::nullopt;

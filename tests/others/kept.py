@@ -94,7 +94,8 @@ def rows_of_rules():
         "--tricks S-N>=6": False, "--tricks S-N<=5": True, "--tricks S-N<=4": False, "--tricks NT-EW=6": True,
         "--tricks NT-EW=7": False, "--tricks C-W>=0": True, "--tricks C-W<=13": True, "--tricks C-W=13": False,
         "--makes 1C-NS --beaten 1C-EW": True, "--makes 1C-NS --beaten 1C-NS": False,
-        "--makes 2S-W --tricks H-S=6": True,
+        "--makes 2S-W --tricks H-S=6": True, "--tricks N-EW=6": True, "--tricks N-EW=7": False,
+        "--makes 1N-N": False, "--beaten 1N-NS": True,
     }.items():
         yield words, said(kept(pbn(1, deal), *words.split())) == (0, pbn(1, deal) if is_met else b"", "")
 
@@ -155,11 +156,11 @@ def added():
 
 
 def refused_words():
-    contract = "  write a level 1 to 7, C, D, H, S or NT, -, and N, E, S, W, NS or EW: 4S-NS\n"
-    form = "  write C, D, H, S or NT, -, N, E, S, W, NS or EW, then =, >= or <= and 0 to 13: S-N=10\n"
+    contract = "  write a level 1 to 7, C, D, H, S, N or NT, -, and N, E, S, W, NS or EW: 4S-NS\n"
+    form = "  write C, D, H, S, N or NT, -, N, E, S, W, NS or EW, then =, >= or <= and 0 to 13: S-N=10\n"
     boards = "  write 1 to 1099511627776\n"
     for option, wrong, advice in [
-        *(("--makes", word, contract) for word in ["", "8S-N", "0S-N", "4S", "4S-NE", "4s-N", "4N-N", "44S-N", "4S-NS "]),
+        *(("--makes", word, contract) for word in ["", "8S-N", "0S-N", "4S", "4S-NE", "4s-N", "4TN-N", "44S-N", "4S-NS "]),
         *(("--beaten", word, contract) for word in ["4NT-SN", "S-N=10"]),
         *(("--tricks", word, form) for word in ["4S-N", "S-N", "S-N==9", "S-N=14", "S-N=", "S-N<9", "S-N=010", "S-N=-1"]),
         *(("--boards", word, boards) for word in ["0", "-1", "x", "1e3", "1099511627777", "99999999999999999999"]),
@@ -206,6 +207,11 @@ def refused_boards():
     run = kept(LINES[0] + no_number, *EACH, "--numbers")
     yield "JSON without a number", said(run) == (1, b"3\n", f"{NAMES}line 2: the board has no candidate's number\n")
     yield "numbers of PBN", kept(GAMES[0], *EACH, "--numbers").returncode == 1
+    alone = (HEAD + GAMES[0]).replace(b"\n", b"\r")
+    for words in ([], EACH):
+        run = kept(alone, *words)
+        is_told = run.stderr.startswith(f"{NAMES}no deal: ".encode())
+        yield f"lines that end in CR alone, {words}", (run.returncode, run.stdout, is_told) == (1, b"", True)
     for name, text in {"bytes by chance": random.Random(3).randbytes(100_000).replace(b"[", b""), "a text": b"x\ny\n"}.items():
         run = kept(text, *EACH)
         yield name, run.returncode == 1 and run.stdout == b"" and run.stderr.startswith(NAMES.encode())
