@@ -6,14 +6,15 @@ import http.client
 import os
 import pathlib
 import random
+import signal
 import socket
-import tempfile
 import time
 
 import harness
 import report
 import serving
 from deals_desk import fields
+from serving import until
 
 OWN = {"Sec-Fetch-Site": "same-origin"}
 NIGHT = {"seed": "1", "boards": "2"}
@@ -84,8 +85,7 @@ def too_many_boards(desk):
 
 
 def ended_searches(desk):
-    """Searches that ended hold few descriptors, and none has a file with a name."""
-    before = set(pathlib.Path(tempfile.gettempdir()).iterdir())
+    """Searches that ended hold few descriptors."""
     form = {"seed": "1", "candidates": "1", "where": "1==1"}
     statuses = set()
     for _ in range(150):
@@ -94,8 +94,6 @@ def ended_searches(desk):
     yield f"searches: {statuses}", statuses == {303}
     held = len(os.listdir(f"/proc/{desk.process.pid}/fd"))
     yield f"they hold {held} descriptors", held < 150
-    left = [path.name for path in set(pathlib.Path(tempfile.gettempdir()).iterdir()) - before if "desk" in path.name]
-    yield f"files that are left: {left}", not left
 
 
 def nasty_bodies(desk):
@@ -132,15 +130,6 @@ def many(desk):
     yield "no run is left", until(lambda: not desk.children())
 
 
-def until(is_so, seconds=10):
-    end = time.monotonic() + seconds
-    while time.monotonic() < end:
-        if is_so():
-            return True
-        time.sleep(0.1)
-    return False
-
-
 NEVER = "/lesson/boards?boards=5&seed=1&where=hcp(north)%3E%3D37"
 
 
@@ -172,8 +161,37 @@ def idle(desk):
     yield "no run is left", until(lambda: not desk.children())
 
 
+def has_ended(process):
+    """Whether a process has ended, so that it has no words any more."""
+    try:
+        return not pathlib.Path(f"/proc/{process}/cmdline").read_bytes()
+    except OSError:
+        return True
+
+
+def ended(number):
+    """A desk that ends by a signal ends its runs at once: of a page that waits, and of a search."""
+    with serving.desk() as desk:
+        desk.post("/search", {"seed": "1", "where": "hcp(north)>=37"})
+        with socket.create_connection(("127.0.0.1", desk.port)) as client:
+            client.sendall(f"GET {NEVER} HTTP/1.1\r\nHost: 127.0.0.1:{desk.port}\r\n\r\n".encode())
+            yield f"{number.name}: both run", until(lambda: len(desk.children()) == 2)
+            runs = desk.children()
+            desk.process.send_signal(number)
+            yield f"{number.name}: the desk ends", until(lambda: desk.process.poll() == 0, 4)
+        yield f"{number.name}: no run is left", until(lambda: all(map(has_ended, runs)), 1)
+
+
+PARTS = (foreign, nasty_fields, too_many_boards, nasty_bodies, many, endless, idle, ended_searches)
+
+
 def refused():
     serving.need()
-    with serving.desk("--limits") as desk:
-        for part in (foreign, nasty_fields, too_many_boards, nasty_bodies, many, endless, idle, ended_searches):
-            yield from report.judged(part(desk))
+    with harness.scratch() as folder:
+        with serving.desk("--limits", folder=folder) as desk:
+            for part in PARTS:
+                yield from report.judged(part(desk))
+        left = os.listdir(folder)
+        yield "no file is left", f"{left}" if left else None
+    for number in (signal.SIGTERM, signal.SIGHUP, signal.SIGINT):
+        yield from report.judged(ended(number))

@@ -57,17 +57,24 @@ def package():
 
 def refused_words():
     """Words that can't be read, a port that is taken, and no program: a status and a line."""
-    rows = [(["--port", "x"], {}, 2), (["--port", "70000"], {}, 2), (["--boards", "3"], {}, 2), ([], {"DEALS": "/nowhere"}, 6)]
-    for words, settings, status in rows:
+    port, listen = "write a number, 0 to 65535", {"DEALS": str(harness.PROGRAM)}
+    rows = [
+        (["--port", "x"], {}, 2, port), (["--port", "70000"], {}, 2, port), (["--port=-1"], {}, 2, port),
+        (["--boards", "3"], {}, 2, "--boards"), ([], {"DEALS": "/nowhere"}, 6, "its package has to be there"),
+        (["--listen", "192.0.2.1"], listen, 6, "an address of this machine by --listen"),
+    ]
+    for words, settings, status, said in rows:
         ended = subprocess.run(
             [serving.PYTHON, serving.DESK, "--no-browser", *words], env={"PATH": "/nowhere", **settings}, capture_output=True, text=True, check=False
         )
-        yield f"{words}", ended.returncode == status and "Traceback" not in ended.stderr and bool(ended.stderr)
+        yield f"{words}", ended.returncode == status and "Traceback" not in ended.stderr and said in ended.stderr
+    closed = subprocess.run(["bash", "-c", '"$@" 2>&-', "", serving.PYTHON, serving.DESK, "--port=x"], capture_output=True, check=False)
+    yield "closed error", (closed.returncode, closed.stdout) == (2, b"")
     with serving.desk() as desk:
         settings = {"DEALS": str(harness.PROGRAM)}
         words = [serving.PYTHON, serving.DESK, "--no-browser", "--port", str(desk.port)]
         ended = subprocess.run(words, env=settings, capture_output=True, text=True, check=False)
-        yield "a port that is taken", ended.returncode == 6 and "try another by --port" in ended.stderr
+        yield "a port that is taken", ended.returncode == 6 and "is the page open already" in ended.stderr
 
 
 def parts():

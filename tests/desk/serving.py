@@ -8,6 +8,7 @@ import pathlib
 import re
 import signal
 import subprocess
+import time
 import urllib.parse
 
 import companion
@@ -76,18 +77,38 @@ class Desk:
 
 
 @contextlib.contextmanager
-def desk(*words, program=DESK, before=()):
-    """A server, which ends at the end. `before` are words before its own, as of taskset."""
+def desk(*words, program=DESK, before=(), folder=None):
+    """A server, which ends at the end. `before` are words before its own, as of taskset; its files are in the folder, if
+    one is given."""
     settings = {**os.environ, "DEALS": str(harness.PROGRAM), "DEALS_TRICKS": str(TRICKS)}
+    settings |= {"TMPDIR": folder} if folder else {}
     process = subprocess.Popen(
-        [*before, PYTHON, program, "--port", "0", "--no-browser", *words], env=settings, stderr=subprocess.PIPE, text=True
+        [*before, PYTHON, program, "--port", "0", "--no-browser", *words], env=settings, stderr=subprocess.PIPE, text=True,
+        preexec_fn=harness.usual_signals,
     )
     try:
         line = process.stderr.readline()
         yield Desk(process, int(re.search(r":(\d+)/ ", line)[1]))
     finally:
         process.send_signal(signal.SIGTERM)
-        process.wait(10)
+        try:
+            process.wait(SECONDS)
+        except subprocess.TimeoutExpired:
+            process.kill()
+            process.wait()
+            raise
+        finally:
+            process.stderr.close()
+
+
+def until(is_so, seconds=10):
+    """Whether it is so before this many seconds are over."""
+    end = time.monotonic() + seconds
+    while time.monotonic() < end:
+        if is_so():
+            return True
+        time.sleep(0.1)
+    return False
 
 
 def typed(line):

@@ -1,8 +1,10 @@
 """deals-desk: serves the page on this machine, and opens it in the browser."""
 
 import argparse
+import errno
 import logging
 import os
+import re
 import shutil
 import signal
 import socket
@@ -21,6 +23,7 @@ from .runs import Runner
 from .words import DEALS
 
 HERE, PORT = "127.0.0.1", 8270
+MOST_PORT = 65535
 NAME_HELP = "a name by which browsers may reach it, as deals.example.org; may be given several times"
 # Statuses, as `deals` has them.
 WORDS, UNABLE = 2, 6
@@ -28,10 +31,9 @@ THREADS = 16
 
 
 def port(text: str) -> int:
-    number = int(text)
-    if not 0 <= number <= 65535:
-        raise ValueError
-    return number
+    if not re.fullmatch("[0-9]{1,5}", text) or int(text) > MOST_PORT:
+        raise argparse.ArgumentTypeError(f"{text}: write a number, 0 to {MOST_PORT}")
+    return int(text)
 
 
 def parser() -> argparse.ArgumentParser:
@@ -82,18 +84,33 @@ def listen(address: str, number: int) -> socket.socket:
     return listening
 
 
-def end(*_: object) -> None:
-    raise SystemExit(0)
+def advice(error: OSError, asked: argparse.Namespace) -> str:
+    """What helps where the server can't listen."""
+    if error.errno == errno.EADDRINUSE:
+        return f"is the page open already, at http://{in_address(asked.listen)}:{asked.port}/? else try another by --port"
+    return "try a port from 1024 on by --port, or an address of this machine by --listen"
+
+
+def end_by_signals(runner: Runner) -> None:
+    """Lets signals end the runs at once, since the server waits for its pages, and then the server. Those that were
+    ignored stay so."""
+    ending = [it for it in (signal.SIGINT, signal.SIGTERM, signal.SIGHUP) if signal.getsignal(it) is not signal.SIG_IGN]
+
+    def end(*_: object) -> None:
+        for number in ending:
+            signal.signal(number, signal.SIG_IGN)
+        runner.end_all()
+        raise SystemExit(0)
+
+    for number in ending:
+        signal.signal(number, end)
 
 
 def serve(asked: argparse.Namespace, runner: Runner) -> int:
     try:
         listening = listen(asked.listen, asked.port)
     except OSError as error:
-        say(
-            f"can't listen at {asked.listen}, port {asked.port}: {error.strerror}\n"
-            f"  is the page open already, at http://{in_address(asked.listen)}:{asked.port}/? else try another by --port"
-        )
+        say(f"can't listen at {asked.listen}, port {asked.port}: {error.strerror}\n  {advice(error, asked)}")
         return UNABLE
     number = listening.getsockname()[1]
     app = create(runner, Guard(hosts(asked.listen, number, asked.name)))
@@ -105,19 +122,21 @@ def serve(asked: argparse.Namespace, runner: Runner) -> int:
     say(f"the page is at {address} until you end it with Ctrl-C")
     if not asked.no_browser:
         threading.Thread(target=open_browser, args=[address], daemon=True).start()
-    signal.signal(signal.SIGTERM, end)
-    signal.signal(signal.SIGHUP, end)
+    end_by_signals(runner)
     try:
         server.run()
     except (KeyboardInterrupt, SystemExit):
         pass
     finally:
         app.extensions["desk"].searches.end_all()
+        runner.end_all()
     return 0
 
 
 def main(words: Sequence[str] | None = None) -> int:
     asked = parser().parse_args(words)
+    # Where standard error is closed, what is said would go to standard output.
+    sys.stderr = sys.stderr or open(os.devnull, "w")
     logging.getLogger("waitress").setLevel(logging.ERROR)
     runner = Runner(limits.CLUB if asked.limits else limits.HOME)
     if not runner.has(DEALS):

@@ -87,11 +87,14 @@ class Pipeline:
             raise
         self.output = reading
 
-    def end(self) -> None:
-        """Ends what still runs."""
+    def kill(self) -> None:
         for process in self.processes:
             if process.poll() is None:
                 process.kill()
+
+    def end(self) -> None:
+        """Ends what still runs."""
+        self.kill()
         for process in self.processes:
             process.wait()
 
@@ -169,6 +172,10 @@ class Runner:
         self.limits = limits
         self.programs = find_programs()
         self.places = threading.BoundedSemaphore(limits.runs)
+        # What runs now, and whether nothing may be started any more.
+        self.running: set[Pipeline] = set()
+        self.has_ended = False
+        self.lock = threading.Lock()
 
     def has(self, name: str) -> bool:
         return name in self.programs
@@ -188,14 +195,32 @@ class Runner:
         finally:
             self.places.release()
 
+    @contextlib.contextmanager
+    def started(self, command: Command, given: bytes) -> Iterator[Pipeline]:
+        """The programs of a command, which are ended with the block."""
+        with self.lock:
+            if self.has_ended:
+                raise Left
+            pipeline = Pipeline(command, self.programs, given)
+            self.running.add(pipeline)
+        try:
+            yield pipeline
+        finally:
+            with self.lock:
+                self.running.discard(pipeline)
+            pipeline.close()
+
+    def end_all(self) -> None:
+        """Ends what runs, and lets nothing be started any more."""
+        with self.lock:
+            self.has_ended = True
+            for pipeline in self.running:
+                pipeline.kill()
+
     def run(self, command: Command, given: bytes = b"", is_left: Callable[[], bool] = lambda: False) -> Ended:
         """Runs a command to its end."""
         self.need(command)
         seconds = self.limits.solving if command.needs_tricks else self.limits.seconds
-        with self.place():
-            pipeline = Pipeline(command, self.programs, given)
-            try:
-                output = read_all(pipeline.output, self.limits.output, seconds, is_left)
-                return pipeline.ended(output)
-            finally:
-                pipeline.close()
+        with self.place(), self.started(command, given) as pipeline:
+            output = read_all(pipeline.output, self.limits.output, seconds, is_left)
+            return pipeline.ended(output)
