@@ -41,11 +41,14 @@ def foreign(desk):
          {"Sec-Fetch-Site": "cross-site", "Sec-Fetch-Mode": "navigate", "Sec-Fetch-Dest": "iframe"}, 403),
         ("a link on another site", "GET", "/lesson",
          {"Sec-Fetch-Site": "cross-site", "Sec-Fetch-Mode": "navigate", "Sec-Fetch-Dest": "document"}, 200),
+        ("its name in capitals", "POST", "/check/where", {"Host": f"LOCALHOST:{desk.port}", "Origin": own.upper(), **OWN}, 200),
         ("this site", "POST", "/check/where", {"Origin": own, **OWN}, 200),
     ]
     for name, method, path, headers, status in rows:
         form = NIGHT if method == "POST" else None
-        yield name, desk.ask(method, path, form, headers).status == status
+        answer = desk.ask(method, path, form, headers)
+        yield name, answer.status == status
+        yield f"{name}, what helps", ("deals-desk --name HOST" in answer.text) == (status == 403 and "Host" in headers)
 
 
 def is_page(answer):

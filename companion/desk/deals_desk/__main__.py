@@ -60,7 +60,8 @@ def in_address(host: str) -> str:
 def hosts(address: str, number: int, names: Sequence[str]) -> frozenset[str]:
     """What browsers may call this server."""
     own = [HERE, "localhost", "[::1]"] if address in (HERE, "::1", "localhost") else [in_address(address)]
-    return frozenset([*(f"{name}:{number}" for name in [*own, *names]), *names, *(own if number == 80 else [])])
+    called = [*(f"{name}:{number}" for name in [*own, *names]), *names, *(own if number == 80 else [])]
+    return frozenset(name.lower() for name in called)
 
 
 def open_browser(address: str) -> None:
@@ -128,15 +129,15 @@ def serve(asked: argparse.Namespace, runner: Runner) -> int:
     except (KeyboardInterrupt, SystemExit):
         pass
     finally:
-        app.extensions["desk"].searches.end_all()
         runner.end_all()
+        app.extensions["desk"].searches.end_all()
     return 0
 
 
 def main(words: Sequence[str] | None = None) -> int:
-    asked = parser().parse_args(words)
     # Where standard error is closed, what is said would go to standard output.
     sys.stderr = sys.stderr or open(os.devnull, "w")
+    asked = parser().parse_args(words)
     logging.getLogger("waitress").setLevel(logging.ERROR)
     runner = Runner(limits.CLUB if asked.limits else limits.HOME)
     if not runner.has(DEALS):

@@ -21,22 +21,26 @@ HEADERS = {
     "Cross-Origin-Opener-Policy": "same-origin",
     "Cross-Origin-Resource-Policy": "same-origin",
 }
+# What is told of a request by another name.
+OTHER_NAME = "This desk isn't called so: open the address that it told, or start it with deals-desk --name HOST."
 
 
 @dataclasses.dataclass(frozen=True)
 class Guard:
-    """The names that this server has in requests, as `127.0.0.1:8270`."""
+    """The names that this server has in requests, as `127.0.0.1:8270`, in small letters."""
 
     hosts: frozenset[str]
 
     def is_own(self, origin: str) -> bool:
-        scheme, separator, host = origin.partition("://")
+        scheme, separator, host = origin.lower().partition("://")
         return bool(separator) and scheme in ("http", "https") and host in self.hosts
 
+    def is_called(self, asked: Request) -> bool:
+        """Whether a request came by a name of this server."""
+        return asked.headers.get("Host", "").lower() in self.hosts
+
     def refuses(self, asked: Request) -> bool:
-        """Whether a request came by another name, or was sent by the page of another site."""
-        if asked.headers.get("Host", "") not in self.hosts:
-            return True
+        """Whether a request was sent by the page of another site."""
         origin = asked.headers.get("Origin")
         if origin is not None and not self.is_own(origin):
             return True
@@ -52,6 +56,8 @@ class Guard:
 
         @app.before_request
         def refuse() -> None:
+            if not self.is_called(request):
+                abort(403, OTHER_NAME)
             if self.refuses(request):
                 abort(403)
 
