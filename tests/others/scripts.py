@@ -321,9 +321,16 @@ def runs():
     yield "altcount, what is told", None if "manual" in said else said
     _, _, said = translated("predeal spades(north)==1")
     yield "lengths in predeal, what is told", None if "manual" in said else said
-    for given, status in ((["/nowhere"], 1), (["--seed", "x"], 2), (["--seed", "4294967296"], 2), (["a", "b"], 2)):
+    seed = "write a number, 0 to 4294967295"
+    for given, status, told in (
+        (["/nowhere"], 1, "No such file"), (["--seed", "x"], 2, seed), (["--seed", "4294967296"], 2, seed), (["a", "b"], 2, "b"),
+    ):
         ended = subprocess.run([PYTHON, TRANSLATOR, *given], capture_output=True, text=True, check=False)
-        yield f"words, {given}", None if ended.returncode == status and "Traceback" not in ended.stderr else ended.stderr
+        right = ended.returncode == status and "Traceback" not in ended.stderr and told in ended.stderr
+        yield f"words, {given}", None if right else ended.stderr
+        closed = ["bash", "-c", '"$@" 2>&-', "", PYTHON, TRANSLATOR, *given]
+        ended = subprocess.run(closed, capture_output=True, text=True, check=False)
+        yield f"closed error, {given}", None if (ended.returncode, ended.stdout) == (status, "") else ended.stdout
 
 
 def scripts():

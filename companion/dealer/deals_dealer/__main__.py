@@ -2,6 +2,7 @@
 
 import argparse
 import os
+import re
 import signal
 import subprocess
 import sys
@@ -17,10 +18,9 @@ MOST_SEED = 4294967295
 
 
 def seed(text: str) -> int:
-    number = int(text)
-    if not 0 <= number <= MOST_SEED:
-        raise ValueError
-    return number
+    if not re.fullmatch("[0-9]{1,10}", text) or int(text) > MOST_SEED:
+        raise argparse.ArgumentTypeError(f"{text}: write a number, 0 to {MOST_SEED}")
+    return int(text)
 
 
 def parser() -> argparse.ArgumentParser:
@@ -65,6 +65,8 @@ def run(commands: Sequence[Command]) -> int:
 
 
 def main(words: Sequence[str] | None = None) -> int:
+    # Where standard error is closed, what is said would go to standard output.
+    sys.stderr = sys.stderr or open(os.devnull, "w")
     # Ctrl-C ends it as it ends other programs, unless it was told to ignore it.
     if signal.getsignal(signal.SIGINT) is signal.default_int_handler:
         signal.signal(signal.SIGINT, signal.SIG_DFL)
