@@ -17,6 +17,7 @@ SECONDS = 20
 RESTING = 0.1
 HERE = pathlib.Path(__file__).resolve().parent
 AUDIT = (HERE / "audit.js").read_text()
+FAILS_ONCE = "const asks = window.fetch; window.fetch = () => { window.fetch = asks; return Promise.reject(new TypeError()); }"
 NOTRUMP = "balanced(north) and hcp(north) in 15-17 and every major (len(north,major)<5)"
 
 
@@ -45,7 +46,7 @@ def browser(width, folder, has_scripts=True):
     driver = webdriver.Chrome(options=options, service=Service("/usr/bin/chromedriver"))
     driver.implicitly_wait(5)
     try:
-        yield Window(driver, pathlib.Path(folder))
+        yield Window(driver, pathlib.Path(folder), has_scripts)
     finally:
         driver.quit()
 
@@ -53,9 +54,10 @@ def browser(width, folder, has_scripts=True):
 class Window:
     """A browser's window, and what a person does in it."""
 
-    def __init__(self, driver, folder):
+    def __init__(self, driver, folder, has_scripts):
         self.driver = driver
         self.folder = folder
+        self.has_scripts = has_scripts
 
     def go(self, address):
         self.driver.get(address)
@@ -226,7 +228,8 @@ def one_hand(window, desk):
     yield "its line says so", "--show=south --points=hide --format=html" in window.shown_lines()[0]
     yield "the choice stays", window.find("[name=show]").get_attribute("value") == "south"
     yield from fits(window, "a page of one hand")
-    if window.find(".print").is_displayed():
+    yield "a button prints where scripts run", window.find(".print").is_displayed() == window.has_scripts
+    if window.has_scripts:
         window.driver.execute_script(
             "document.querySelector('#result iframe').contentWindow.print = () => { window.printed = true; }"
         )
@@ -311,6 +314,9 @@ def searched(window, desk):
     window.until(lambda: int(window.find("[data-found]").text) > 0, "a board")
     window.until(lambda: "%" in window.find("[data-progress]").text, "the progress")
     yield from fits(window, "a search")
+    window.driver.execute_script(FAILS_ONCE)
+    shown = window.find("[data-progress]").text
+    window.until(lambda: window.find("[data-progress]").text != shown, "progress after a request that failed")
     window.press("Stop")
     window.until(lambda: "Stopped" in window.find("[role=status]").text, "the end")
     window.until(lambda: "Board 1" in window.frame_text(), "the boards")
@@ -371,7 +377,8 @@ def dark(window, desk):
     window.driver.execute_cdp_cmd(
         "Emulation.setEmulatedMedia", {"features": [{"name": "prefers-color-scheme", "value": "dark"}]}
     )
-    for path in ("/", "/lesson?where=hcp(nord)>3&boards=1&seed=7", "/count?of=hcp(north)", "/search?where=hcp(north)>30", "/help"):
+    long = f"/lesson?boards=1&seed={300 * '9'}"
+    for path in ("/", "/lesson?where=hcp(nord)>3&boards=1&seed=7", long, "/count?of=hcp(north)", "/search?where=hcp(north)>30", "/help"):
         window.go(desk.address + path)
         yield from fits(window, f"dark, {path}")
 

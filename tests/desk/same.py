@@ -103,6 +103,17 @@ def nights(desk):
         yield f"tonight, {name}, not kept", given.headers["Cache-Control"] == "no-store"
 
 
+def searches(desk):
+    """A search that came to the end of its deals says so, and goes on after them; its boards are those of its lines."""
+    form = {"seed": "7", "where": "hcp(north)>=33", "boards": "1000", "first": "5", "candidates": "60000000"}
+    key = desk.post("/search", form).headers["Location"]
+    yield "a search ends", serving.until(lambda: not json.loads(desk.get(f"{key}/state").text)["running"], serving.SECONDS)
+    page = desk.get(key).text
+    yield "all is searched", "all is searched" in page and "first=60000005" in page
+    find, pick = (line.partition(" > ")[0].partition(" < ")[0] for line in shown_lines(page))
+    yield "a search's boards", desk.get(f"{key}/pbn").body == serving.typed(f"{find} | {pick}") != b""
+
+
 def letters(desk):
     """Letters that PBN lacks are in pages and sheets; of the files PBN alone refuses them, and says that it does."""
     night, lesson = {**TONIGHT, **LETTERS}, {**LESSONS[0], **LETTERS}
@@ -124,5 +135,5 @@ def letters(desk):
 def bytes_of_lines():
     serving.need()
     with serving.desk() as desk:
-        for part in (lessons, contracts, letters, counts, nights):
+        for part in (lessons, contracts, letters, counts, nights, searches):
             yield from report.judged(part(desk))

@@ -16,7 +16,6 @@ from .words import Command, Form
 
 # What `--progress=always` writes each second.
 PROGRESS = re.compile(r"^\s*\S+%\s+([\d,]+) of [\d,]+ candidates.*$", re.MULTILINE)
-MOST_FOUND = 10_000
 
 
 @dataclasses.dataclass
@@ -39,7 +38,14 @@ class Search:
 
     @property
     def is_running(self) -> bool:
-        return self.status is None
+        """Whether it goes on, or its last numbers are still read."""
+        return self.ended is None
+
+    @property
+    def is_whole(self) -> bool:
+        """Whether it came to the end of its candidates, with fewer boards than were asked for."""
+        has_ended = not self.is_running and not self.stopped and self.status == 0
+        return has_ended and len(self.numbers) < int(self.form["boards"])
 
     def lines(self) -> str:
         """The last of what it said. The program writes on in the same file, so its place there isn't moved."""
@@ -47,7 +53,9 @@ class Search:
         return os.pread(self.said.fileno(), MOST_SAID, begin).decode("utf-8", "replace").replace("\r", "\n")
 
     def progress(self) -> str:
-        """The last line of progress."""
+        """The last line of progress; nothing where all is searched."""
+        if self.is_whole:
+            return ""
         found = [match[0].strip() for match in PROGRESS.finditer(self.lines())]
         return found[-1] if found else ""
 
@@ -60,7 +68,10 @@ class Search:
     def goes_on_at(self) -> int:
         """The first deal that isn't searched, or is searched again."""
         after = self.numbers[-1] + 1 if self.numbers else 0
-        return max(after, int(self.form.get("first") or 0) + self.searched())
+        first = int(self.form["first"] or 0)
+        if self.is_whole and self.form["candidates"]:
+            return first + int(self.form["candidates"])
+        return max(after, first + self.searched())
 
     def stop(self) -> None:
         if self.is_running:
@@ -77,8 +88,6 @@ class Search:
         for line in self.process.stdout:
             if line.endswith(b"\n"):
                 self.numbers.append(int(line))
-            if len(self.numbers) >= MOST_FOUND:
-                self.stop()
         self.process.stdout.close()
         self.process.wait()
         self.ended = time.monotonic()

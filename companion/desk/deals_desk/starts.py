@@ -3,9 +3,14 @@
 import dataclasses
 import functools
 import subprocess
+import threading
+
+from .runs import ENVIRONMENT
 
 # So long the program may take to tell of one.
 SECONDS = 10
+# Held while a program is asked, so that it is asked once, however many pages wait.
+ASKING = threading.Lock()
 
 
 @dataclasses.dataclass(frozen=True)
@@ -30,7 +35,9 @@ def told(program: str, *words: str) -> str:
     """What the program tells of lessons; LookupError, where it can't."""
     command = [program, "lessons", *words]
     try:
-        return subprocess.run(command, capture_output=True, text=True, check=True, timeout=SECONDS).stdout
+        return subprocess.run(
+            command, capture_output=True, text=True, check=True, timeout=SECONDS, env=ENVIRONMENT
+        ).stdout
     except (OSError, subprocess.SubprocessError) as error:
         raise LookupError("no lessons") from error
 
@@ -59,6 +66,7 @@ def known(program: str) -> tuple[Group, ...]:
 def groups(program: str) -> tuple[Group, ...]:
     """The groups, or none where the program can't tell them; it is asked again then."""
     try:
-        return known(program)
+        with ASKING:
+            return known(program)
     except LookupError:
         return ()

@@ -122,7 +122,7 @@ function watchText(area) {
     const answer = await check(text).catch(() => undefined);
     if (answer === undefined || text !== area.value) return;
     // Places are told in the text without the blanks before it.
-    if (answer && answer.at >= 0) answer.at += text.length - text.trimStart().length;
+    if (answer && Number.isInteger(answer.at)) answer.at += text.length - text.trimStart().length;
     show(area, answer);
     clearTimeout(resting);
     if (!line) return;
@@ -166,8 +166,10 @@ function watchLines(form) {
 
 function watchSearch(bar) {
   const follow = async () => {
-    const state = await fetch(bar.dataset.state).then((response) => response.json()).catch(() => null);
-    if (!state) return;
+    const response = await fetch(bar.dataset.state).catch(() => null);
+    if (response && response.status === 404) return; // the desk doesn't know the search any more
+    const state = response && await response.json().catch(() => null);
+    if (!state) return setTimeout(follow, SECOND);
     const found = bar.querySelector("[data-found]");
     if (!state.running || (state.found && !document.querySelector("[data-boards]"))) return location.reload();
     if (found.textContent !== String(state.found)) {
