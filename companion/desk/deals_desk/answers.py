@@ -11,8 +11,8 @@ LINES = (
     (re.compile(r"plan refused: (boards|first board)"), r"\1"),
     (re.compile(r"condition refused\b"), "where"),
     (re.compile(r"(of|by) refused\b"), r"\1"),
-    (re.compile(r"hand refused: (north|east|south|west)"), r"\1"),
-    (re.compile(r"label refused: (event|site|date)"), r"\1"),
+    (re.compile(rf"hand refused: ({'|'.join(fields.SEATS)})"), r"\1"),
+    (re.compile(rf"label refused: ({'|'.join(fields.LABELS)})"), r"\1"),
     (re.compile(r"error: .*?'?--([a-z-]+)[ '=]"), r"\1"),
     (re.compile(r"deals-tricks: --(makes|beaten) "), r"\1"),
 )

@@ -41,11 +41,8 @@ def table(style: str) -> Response:
     form = asked()
     if style not in STYLES:
         abort(404)
-    try:
-        bounded(form, "count")
-        ended = checked(words.count(form, style), form)
-    except Refused as refused:
-        return page("refused.html", 422, answer=refused.answer)
+    bounded(form, "count")
+    ended = checked(words.count(form, style), form)
     return written(ended.output, STYLES[style], "count")
 
 

@@ -53,9 +53,5 @@ def file(name: str) -> Response:
     if name not in files.LESSON:
         abort(404)
     wanted = files.BY_NAME[name]
-    try:
-        accepted(form)
-        text = text_of(wanted, form)
-    except Refused as refused:
-        return page("refused.html", 422, answer=refused.answer)
-    return written(text, wanted, "lesson")
+    accepted(form)
+    return written(text_of(wanted, form), wanted, "lesson")
