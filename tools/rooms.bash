@@ -6,13 +6,13 @@ room=""
 helper="" # a process of this shell's own group that it waits for
 young="" # the room's first name
 
-# Ends the child and all that it started, and then this shell, by a signal.
+# Ends the child and all that it started, and then this shell, by a signal, as a terminal would end them together.
 end_by() {
     trap '' INT TERM HUP QUIT
     [ "$child" != new ] || child=${!-}
     [ -z "$helper" ] || kill "$helper" 2>/dev/null || true
     if [ -n "$child" ]; then
-        kill -TERM -- "-$child" || true
+        kill -s "$1" -- "-$child" || true
         for _ in {1..50}; do
             kill -0 -- "-$child" || break
             sleep 0.1

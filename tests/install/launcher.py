@@ -515,12 +515,19 @@ class Checks:
                 yield from self.check_ended_by(number, how, "ended" if how == LASTS else "ended, a stubborn child")
         yield from self.check_ended_by(signal.SIGKILL, LASTS, "killed")
 
+    def check_ended_whole(self):
+        """The whole check: its step ends with it, and it leaves no file."""
+        out = b"check: rt ci\nwords for standard output\nwords for standard error\n"
+        for number in (signal.SIGINT, signal.SIGTERM, signal.SIGHUP, signal.SIGQUIT):
+            with self.checkout() as it:
+                yield from self.judge_end(it, number, LASTS, "check", [], b"", f"the whole check by {number.name}", out, 1)
+
     def check_ended_by(self, number, how, name):
         for script, words, line in (("deals", ["x"], FIRST_LINE), ("check", ["program"], BUILD_LINE)):
             with self.checkout() as it:
                 yield from self.judge_end(it, number, how, script, words, line, f"{script} {name} by {number.name}")
 
-    def judge_end(self, it, number, how, script, words, line, name):
+    def judge_end(self, it, number, how, script, words, line, name, wanted_out=b"", next_status=0):
         it.works_by(how)
         started = it.start(*words, launcher=it.path(script))
         pids = pids_in(os.path.join(it.tools, b"pids"))
@@ -529,7 +536,7 @@ class Checks:
         status = started.wait(timeout=PATIENCE)
         # bash itself can't end by SIGQUIT.
         wanted = signal.SIGTERM if number == signal.SIGQUIT else number
-        yield f"{name}, the status", (status, out, err) == (-wanted, b"", line)
+        yield f"{name}, the status", (status, out, err) == (-wanted, wanted_out, line)
         if number == signal.SIGKILL:
             os.kill(pids[0], signal.SIGKILL)
             os.kill(pids[1], signal.SIGKILL)
@@ -537,7 +544,7 @@ class Checks:
         yield f"{name}, its child has ended", all(has_ended(pid) for pid in pids)
         yield f"{name}, no file is left", it.is_clean() or number == signal.SIGKILL
         it.works_by(DOES)
-        yield f"{name}, the next call", it.call(*words, launcher=it.path(script))[0] == 0 and it.is_clean()
+        yield f"{name}, the next call", it.call(*words, launcher=it.path(script))[0] == next_status and it.is_clean()
 
 
 def pids_in(path):
