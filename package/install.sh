@@ -1,7 +1,7 @@
 #!/bin/sh
 # Installs deals below a folder, as /usr/local or "$HOME/.local", or removes it.
 #
-# sh install.sh PREFIX            installs; what an earlier version left is removed first
+# sh install.sh PREFIX            installs; what an earlier version had beside it is removed
 # sh install.sh --remove PREFIX   removes all that was installed
 #
 # PREFIX/share/doc/deals/installed lists what was installed, and this file is beside it.
@@ -12,16 +12,14 @@ usage() {
     exit 2
 }
 
-# Removes what the list names: files first, then those folders that it made and that are empty now.
+# Removes these files, and those of these folders that are empty then. The names have no spaces.
 remove() {
-    list=$1/share/doc/deals/installed
-    [ -f "$list" ] || return 0
-    names=$(cat "$list")
-    # The names have no spaces.
-    for name in $names; do
+    below=$1
+    shift
+    for name in "$@"; do
         case $name in
-            */) rmdir "$1/$name" 2>/dev/null || true ;;
-            *) rm -f "$1/$name" ;;
+            */) rmdir "$below/$name" 2>/dev/null || true ;;
+            *) rm -f "$below/$name" "$below/$name.new" ;;
         esac
     done
 }
@@ -38,7 +36,7 @@ make_folder() {
 
 # Refuses a place where a folder has the name of a file.
 look_at() {
-    for name in $files share/doc/deals/install.sh share/doc/deals/installed; do
+    for name in $files "$script" "$list"; do
         if [ -d "$1/$name" ]; then
             echo "install.sh: $1/$name is a folder: move it away, and nothing was installed" >&2
             exit 1
@@ -46,17 +44,51 @@ look_at() {
     done
 }
 
-install_all() {
-    made=''
+# Copies all files beside their places, so that nothing of an earlier version is touched if one of them fails.
+copy_all() {
     for name in $files; do
         make_folder "$1" "${name%/*}"
         cp "$here/files/$name" "$1/$name.new"
         chmod "$(if [ -n "$(find "$here/files/$name" -perm -100)" ]; then echo 755; else echo 644; fi)" "$1/$name.new"
+    done
+    make_folder "$1" "${list%/*}"
+    cp "$here/install.sh" "$1/$script.new"
+    printf '%s\n' $files "$script" "$list" $made $earlier >"$1/$list.new"
+}
+
+# Removes what was copied, and the folders for it.
+undo() {
+    for name in $files "$script" "$list"; do
+        rm -f "$prefix/$name.new"
+    done
+    remove "$prefix" $made
+    echo "install.sh: nothing was installed" >&2
+}
+
+# Until all is in its place, the list has what an earlier version had too, so that all can be removed.
+install_all() {
+    made=''
+    earlier=''
+    [ ! -f "$1/$list" ] || earlier=$(cat "$1/$list")
+    trap undo EXIT
+    trap 'exit 1' HUP INT TERM
+    copy_all "$1"
+    mv -f "$1/$list.new" "$1/$list"
+    trap - EXIT HUP INT TERM
+    for name in $files "$script"; do
         mv -f "$1/$name.new" "$1/$name"
     done
-    doc=share/doc/deals
-    cp "$here/install.sh" "$1/$doc/install.sh"
-    printf '%s\n' $files "$doc/install.sh" "$doc/installed" $made >"$1/$doc/installed"
+    for name in $earlier; do
+        case " $(echo $files) $script $list " in
+            *" $name "*) ;;
+            *) remove "$1" "$name" ;;
+        esac
+    done
+    for name in $earlier; do
+        case $name in */) [ ! -d "$1/$name" ] || made="$made$name " ;; esac
+    done
+    printf '%s\n' $files "$script" "$list" $made >"$1/$list.new"
+    mv -f "$1/$list.new" "$1/$list"
 }
 
 # Says how the program is found by its name, if it isn't yet.
@@ -70,15 +102,17 @@ say_path() {
     echo "export PATH='$quoted':\"\$PATH\""
 }
 
+script=share/doc/deals/install.sh
+list=share/doc/deals/installed
 [ $# -gt 0 ] || usage
 case $1 in
     --remove)
         [ $# = 2 ] && [ -n "$2" ] || usage
-        [ -f "$2/share/doc/deals/installed" ] || {
+        [ -f "$2/$list" ] || {
             echo "install.sh: nothing of deals was installed below $2 by this script" >&2
             exit 1
         }
-        remove "$2"
+        remove "$2" $(cat "$2/$list")
         ;;
     -*) usage ;;
     *)
@@ -94,8 +128,8 @@ case $1 in
         umask 022
         files=$(CDPATH='' cd -- "$here/files" && find . -type f | sed 's,^\./,,' | sort)
         look_at "$1"
+        prefix=$1
         mkdir -p "$1"
-        remove "$1"
         install_all "$1"
         say_path "$1"
         ;;

@@ -158,6 +158,49 @@ def check_tarball(folder):
     yield "with its folders", not (prefix / "bin").exists() and not (prefix / "share/doc").exists()
 
 
+# A program of this name that fails for the file install.sh, which is copied last, and by a signal too.
+FAILS = """#!/bin/sh
+case $1 in */install.sh) %s ;; esac
+exec /bin/cp "$@"
+"""
+
+
+def bytes_below(folder):
+    """All files and folders, with the files' bytes."""
+    return {path: path.read_bytes() if path.is_file() else None for path in folder.rglob("*")}
+
+
+def stand_in(folder, version):
+    """A tarball's folder with some files, one of which this version alone has."""
+    for name in ("bin/deals", "share/doc/deals/README.md", f"share/doc/deals/{version}/only"):
+        (folder / "files" / name).parent.mkdir(parents=True, exist_ok=True)
+        (folder / "files" / name).write_text(version)
+    shutil.copy(harness.TOP / "package" / "install.sh", folder)
+    return folder / "install.sh"
+
+
+def check_undone(folder):
+    """Where a file can't be copied, nothing is installed, and an earlier version stays; a later one removes it."""
+    old, new = (stand_in(folder / version, version) for version in ("old", "new"))
+    prefix, tools = folder / "undone", folder / "tools"
+    for path in (prefix, tools):
+        path.mkdir()
+    for way in ("exit 1", "kill -TERM $PPID"):
+        (tools / "cp").write_text(FAILS % way)
+        (tools / "cp").chmod(0o755)
+        for script in (old, new):
+            before = bytes_below(prefix)
+            status, _, err = told(["sh", script, prefix], PATH=f"{tools}:{os.environ['PATH']}")
+            right = status == 1 and b"nothing was installed" in err and bytes_below(prefix) == before
+            yield f"{way}: {script.parent.name} is undone", right
+            if script == old:
+                yield f"{way}: old is installed", told(["sh", old, prefix])[0] == 0
+        yield f"{way}: new is installed", told(["sh", new, prefix])[0] == 0
+        files = {path.read_text() for path in prefix.rglob("*") if path.name in ("deals", "README.md", "only") and path.is_file()}
+        yield f"{way}: nothing is left of old", files == {"new"} and not (prefix / "share/doc/deals/old").exists()
+        yield f"{way}: all is removed", told(["sh", new, "--remove", prefix])[0] == 0 and not bytes_below(prefix)
+
+
 def check_root(folder):
     """A Debian package is put into a root of its own, with the databases of dpkg alone, and removed."""
     need_tools()
@@ -174,7 +217,7 @@ def check_root(folder):
     yield "dpkg removes it", status == 0 and left == []
 
 
-QUICK = [check_made, check_lint, check_program, check_tarball, check_root]
+QUICK = [check_made, check_lint, check_program, check_tarball, check_undone, check_root]
 
 
 # A club night, as the guide has it.
