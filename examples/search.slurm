@@ -9,6 +9,10 @@
 #
 # The folder is shared by all machines. Each has the script `shard`: where the package puts it, or where SHARD says.
 set -eu
+if [ $# -lt 2 ]; then
+    echo "usage: sbatch --array=0-99 search.slurm FOLDER COUNT OPTIONS_OF_FIND.." >&2
+    exit 2
+fi
 folder=$1
 # In ten, without zeros in front: the shell's own arithmetic takes 010 for eight.
 count=$(printf '%s\n' "$2" | sed 's/^0*\(.\)/\1/')

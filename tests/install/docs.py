@@ -26,9 +26,11 @@ import recipes
 
 PAGES = ["README.md", "docs/INSTALL.md", "docs/GUIDE.md", "docs/CONDITIONS.md", "docs/SECRECY.md"]
 PAGES += ["docs/SCALE.md", "docs/COUNTING.md", "package/deals.1.in"]
-BLOCK = re.compile(r"^ *```\n(.*?)^ *```$", re.M | re.S)
+BLOCK = re.compile(r"^ *```(\w*)\n(.*?)^ *```$", re.M | re.S)
 EXAMPLE = re.compile(r"^\.EX\n(.*?)^\.EE$", re.M | re.S)
-OURS = re.compile(r"(\./)?deals(-tricks)? |printf |sed |cat ")
+OURS = re.compile(r"(\./)?deals(-tricks)? |printf |sed |cat |\[ -e ")
+# What is a command, though no block may begin with it.
+COMMAND = re.compile(r"(^|[|;&(] *)(deals(-\w+)?|nohup|sh) ")
 # A file or a folder of the repository, where a page names it.
 PATH = re.compile(r"\b(?:bench|companion|crates|docs|examples|package|tests|tools)/[\w./-]*\w")
 # A source of a crate, as the pages name it.
@@ -36,7 +38,7 @@ SOURCE = re.compile(r"`([a-z_0-9]+/(?:src|specs)/[\w/]+\.(?:rt|antt))`")
 ASSIGNS = re.compile(r"\w+=")
 # What other tests and ./check themselves run.
 ELSEWHERE = ("sudo apt install ", "parallel ", "tar -xzf ", "sh ", "package/build", "./check", "tests/", "rt ")
-ELSEWHERE += ("companion/build",)
+ELSEWHERE += ("companion/build", "nohup ")
 PATIENCE = 600
 # The pictures that are drawn, and what draws them.
 DRAWN = {"terminal.svg": "tools/record", "crates.svg": "tools/crates"}
@@ -55,7 +57,8 @@ def blocks_of(path):
     if path.suffix == ".in":
         found = [commands.plain(block) for block in EXAMPLE.findall(text)]
     else:
-        found = BLOCK.findall(text)
+        # Those of a language are for many machines, and run by other tests.
+        found = [block for language, block in BLOCK.findall(text) if not language]
     for block in found:
         indent = min((len(line) - len(line.lstrip()) for line in block.splitlines() if line.strip()), default=0)
         yield [line[indent:] for line in block.splitlines()]
@@ -193,6 +196,8 @@ def check_page(path, place):
     """The name of each command of a page, and what is wrong with it."""
     for lines in blocks_of(path):
         before = ""
+        if not list(commands_of(lines)) and any(map(COMMAND.search, lines)):
+            yield lines[0], "nothing runs this block"
         for command, wanted in commands_of(lines):
             if command.startswith(place.elsewhere):
                 continue
@@ -250,6 +255,16 @@ def check_pictures():
             yield f"{name}, the {time} drawing", None if right else wrong
 
 
+def check_usages():
+    """Tools refuse a word that they don't know, in a line that says which there are, and a command that isn't there."""
+    for tool in ("calls", "crates", "lessons", "record", "statement"):
+        end = subprocess.run([harness.TOP / "tools" / tool, "--wirte"], capture_output=True, text=True, timeout=PATIENCE)
+        right = (end.returncode, end.stdout, end.stderr.count("\n")) == (2, "", 1)
+        yield f"tools/{tool}", None if right and end.stderr.startswith(f"usage: tools/{tool} [") else f"{end}"
+    end = subprocess.run([harness.TOP / "tools" / "cost", "/nowhere"], capture_output=True, text=True, timeout=PATIENCE)
+    yield "tools/cost", None if end.returncode == 1 and "/nowhere can't be started" in end.stderr else f"{end}"
+
+
 def check_sources():
     """The sources that the pages name are there, and ARCHITECTURE names each crate but those of tests."""
     listed = re.findall(r"^(?!test_)(\w+):", (harness.TOP / "crates.txt").read_text(encoding="utf-8"), re.M)
@@ -271,6 +286,7 @@ def shown():
     yield from check_refusals()
     yield from check_changelog()
     yield from check_pictures()
+    yield from check_usages()
     yield from check_sources()
     yield from recipes.check_recipes()
     yield from check_words()

@@ -204,6 +204,12 @@ def stopped(deals):
             yield f"a shard, {sign.name}", None if found and right else f"{status}, {os.listdir(folder)}"
 
 
+def usage(deals):
+    """The script for Slurm without its words says how it is called."""
+    run = subprocess.run([harness.TOP / "examples" / "search.slurm"], capture_output=True, check=False)
+    yield "search.slurm, no words", None if run.returncode == 2 and run.stderr.startswith(b"usage: sbatch") else str(run)
+
+
 def array(deals):
     """The script for Slurm: its shards, started as the jobs of an array are."""
     with tempfile.TemporaryDirectory(prefix="shards-") as folder:
