@@ -6,7 +6,6 @@ is. A part that needs a program which isn't there and can't be installed is skip
 
 import concurrent.futures
 import os
-import subprocess
 import sys
 import time
 
@@ -39,8 +38,8 @@ def results(name, part):
             yield name, str(missing)
         else:
             print(f"SKIPPED: {name}: {missing}")
-    except subprocess.SubprocessError as error:
-        yield name, str(error)
+    except Exception as error:
+        yield name, f"{type(error).__name__}: {error}"
 
 
 def run_part(name, part):

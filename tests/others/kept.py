@@ -11,6 +11,7 @@ import pty
 import random
 import re
 import resource
+import shlex
 import signal
 import subprocess
 import tempfile
@@ -23,6 +24,8 @@ import tricks
 
 PROGRAM = tricks.PROGRAM
 NAMES = "deals-tricks: "
+# Both programs as a shell takes their paths.
+DEALS_WORD, TRICKS_WORD = (shlex.quote(str(path)) for path in (harness.PROGRAM, PROGRAM))
 SECONDS = 60
 # A rule that each board meets, and costs nothing; and one that none meets.
 EACH = ["--tricks", "S-N>=0"]
@@ -227,7 +230,9 @@ def endless():
 
 def streams():
     """Streams that fail."""
-    run = subprocess.run([PROGRAM, *EACH], stdin=os.open("/", os.O_RDONLY), capture_output=True, check=False, timeout=SECONDS)
+    folder = os.open("/", os.O_RDONLY)
+    run = subprocess.run([PROGRAM, *EACH], stdin=folder, capture_output=True, check=False, timeout=SECONDS)
+    os.close(folder)
     yield "a folder as input", said(run) == (1, b"", f"{NAMES}input failed: {os.strerror(errno.EISDIR)}\n")
     with open("/dev/full", "wb") as full:
         run = subprocess.run([PROGRAM, *EACH], input=GAMES[0], stdout=full, stderr=subprocess.PIPE, check=False)
@@ -303,9 +308,9 @@ def pipes():
 def after_find(rare):
     """The numbers of twelve boards of a thousand million candidates, what came after the twelfth board, what was said,
     and in how many seconds all of the pipe had ended."""
-    find = f"{harness.PROGRAM} find --seed 7 --candidates 1000000000 --where '{rare}'"
-    pick = f"{harness.PROGRAM} pick --seed 7 --format json"
-    line = f"{find} | {pick} | {PROGRAM} --tricks 'S-N>=0' --boards 12 --numbers | {pick}; echo ${{PIPESTATUS[@]}}"
+    find = f"{DEALS_WORD} find --seed 7 --candidates 1000000000 --where '{rare}'"
+    pick = f"{DEALS_WORD} pick --seed 7 --format json"
+    line = f"{find} | {pick} | {TRICKS_WORD} --tricks 'S-N>=0' --boards 12 --numbers | {pick}; echo ${{PIPESTATUS[@]}}"
     with subprocess.Popen(["bash", "-c", line], stdout=subprocess.PIPE, stderr=subprocess.PIPE, text=True) as process:
         numbers = [json.loads(process.stdout.readline())["number"] for _ in range(12)]
         began = time.monotonic()
@@ -331,9 +336,9 @@ def picked_with_tricks():
     """The numbers with tricks of boards that were found make the sheet that the boards themselves make."""
     harness.build()
     search = "--seed 7 --candidates 20000 --where 'hcp(north)>=24'"
-    pick = f"{harness.PROGRAM} pick --seed 7"
-    numbered = f"{harness.PROGRAM} find {search} | {pick} --format json | {PROGRAM} --numbers --add"
-    plain = f"{harness.PROGRAM} make {search} | {PROGRAM} --add | {harness.PROGRAM} show --format sheet"
+    pick = f"{DEALS_WORD} pick --seed 7"
+    numbered = f"{DEALS_WORD} find {search} | {pick} --format json | {TRICKS_WORD} --numbers --add"
+    plain = f"{DEALS_WORD} make {search} | {TRICKS_WORD} --add | {DEALS_WORD} show --format sheet"
     lines = f"{numbered} | {pick} --tricks --format sheet; echo ${{PIPESTATUS[@]}}"
     sheets = [subprocess.run(["bash", "-c", line], capture_output=True, timeout=SECONDS, check=False) for line in (lines, plain)]
     text = sheets[1].stdout
@@ -361,7 +366,7 @@ def stopped():
 def counted():
     """The line of counts on a terminal: shown while it lasts, and wiped."""
     terminal, other = pty.openpty()
-    command = f'(cat; sleep 2.2) | "{PROGRAM}" --tricks "S-N>=0"'
+    command = f'(cat; sleep 2.2) | {TRICKS_WORD} --tricks "S-N>=0"'
     with subprocess.Popen(["bash", "-c", command], stdin=subprocess.PIPE, stdout=subprocess.PIPE, stderr=other) as process:
         os.close(other)
         out, _ = process.communicate(GAMES[0], timeout=SECONDS)
