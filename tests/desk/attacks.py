@@ -118,17 +118,28 @@ def nasty_bodies(desk):
     yield "a method that isn't taken", desk.ask("DELETE", "/").status == 405
 
 
-def many(desk):
-    """Two hundred requests at once are answered, and few runs work at a time."""
-    form = {"boards": "100", "seed": "5", "where": "hcp(north)>=20"}
-    with concurrent.futures.ThreadPoolExecutor(200) as pool:
-        asked = [pool.submit(desk.get, "/lesson/boards", form) for _ in range(200)]
+def at_once(desk, count, path, form=None):
+    """The statuses of a number of requests at once, and how many programs ran at most meanwhile."""
+    with concurrent.futures.ThreadPoolExecutor(count) as pool:
+        asked = [pool.submit(desk.get, path, form) for _ in range(count)]
         most = 0
         while not all(future.done() for future in asked):
             most = max(most, len(desk.children()))
             time.sleep(0.02)
-        statuses = [future.result().status for future in asked]
-    yield "all are answered", set(statuses) <= {200, 503} and 200 in statuses
+        return {future.result().status for future in asked}, most
+
+
+def first_pages():
+    """Pages that come at once, before the desk has asked for the lessons, start one program at a time."""
+    with serving.desk() as desk:
+        statuses, most = at_once(desk, 12, "/lesson")
+    yield f"programs for lessons at once: {most}", statuses == {200} and most <= 1
+
+
+def many(desk):
+    """Two hundred requests at once are answered, and few runs work at a time."""
+    statuses, most = at_once(desk, 200, "/lesson/boards", {"boards": "100", "seed": "5", "where": "hcp(north)>=20"})
+    yield "all are answered", statuses <= {200, 503} and 200 in statuses
     yield f"runs at once: {most}", most <= 4
     yield "no run is left", until(lambda: not desk.children())
 
@@ -196,5 +207,6 @@ def refused():
                 yield from report.judged(part(desk))
         left = os.listdir(folder)
         yield "no file is left", f"{left}" if left else None
+    yield from report.judged(first_pages())
     for number in (signal.SIGTERM, signal.SIGHUP, signal.SIGINT):
         yield from report.judged(ended(number))
