@@ -63,10 +63,40 @@ const WISHES: &str = "
         deals count writes a table of numbers; deals make writes boards
 ";
 
+/// What people call lessons in small letters, and a lesson's name.
+const LESSONS: &str = "
+    lesson blackwood rkc rkcb keycards 4nt => keycard
+    lesson transfer transfers => transfer-hearts
+    lesson jacoby => jacoby-2nt
+    lesson 1nt 1n one-notrump strong-nt 15-17 => strong-notrump
+    lesson 2nt 2n => two-notrump
+    lesson 2c 2clubs strong-2c => strong-two-clubs
+    lesson weak2 weak-2 weak2s weak-twos => weak-two
+    lesson 2/1 2over1 two-over-1 gf => two-over-one
+    lesson 4sf fsf fourth-suit-forcing => fourth-suit
+    lesson finesse finesses => king-onside
+    lesson raise raises => single-raise
+    lesson slam slams => suit-slam
+    lesson lead leads => fourth-best
+    lesson double doubles takeout => takeout-double
+    lesson 2nt-overcall unusual-2nt => unusual-notrump
+    lesson openings opening => five-card-major
+";
+
+/// What clap calls the name after `lessons`.
+const LESSON_NAME: &str = "[NAME]";
+
 const ONE_FORMAT: &str = "one format a run: run it again with the same seed for the other";
 
 /// What helps with the value of this option, in any case.
 pub(crate) fn hint(alloc: Global, command: &str, option: &str, word: &str) -> Option<String> {
+    if let Some(lesson) = find_small(alloc, LESSONS, "lesson", word) {
+        match option {
+            "--lesson" => return valued(alloc, "write ", option, lesson, ""),
+            LESSON_NAME => return joined(alloc, &["write deals lessons ", lesson]),
+            _ => {}
+        }
+    }
     let of_count = command == "count" && option == "--format";
     let of = if of_count { command } else { option };
     if let Some(text) = find_small(alloc, WISHES, of, word) {

@@ -7,7 +7,7 @@ returns-clause-text c =
     rw (
       c.put-3.ensures.text,
       c.put_bar.ensures.text,
-      c.put_per_cent.ensures.text,
+      c.put_share.ensures.text,
       c.put-2.ensures.text,
       c.put_deals.ensures.text,
       c.put.ensures.text,
