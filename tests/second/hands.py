@@ -2,7 +2,8 @@
 of a text that is refused with a second reading of them.
 
 A text that is a hand has its cards in the seat's hand of each deal. Of four texts the first that isn't a hand, or that has
-a card of an earlier one, is refused: with status 2, nothing written, its seat, and below it a fault that the text has.
+a card of an earlier one, is refused: with status 2, nothing written, its seat, and below it a fault that the text has. A
+hand that is told in its place is one, of the same ranks.
 """
 
 import collections
@@ -145,16 +146,30 @@ def run(texts, seed):
     return subprocess.run(command, capture_output=True, text=True)
 
 
+def below_refusal(said):
+    """The lines below a refusal: what the option was given, the fault, and the hand that is told, or None."""
+    _, _, below = said.partition("\n")
+    given, _, fault = below.partition("\n")[0].rpartition(": ")
+    hint = re.search("^  hint: write (.*)\n", below, re.M)
+    return given, fault, hint and hint[1]
+
+
+def is_likely(hand, text):
+    """Whether a hand that is told is one, and of the ranks of this text."""
+    ranks = [sign for sign in text.upper().replace("10", "T") if sign in RANKS]
+    return not faults_of(hand, {}) and list(hand.replace(".", "")) == ranks
+
+
 def complaint(texts, seed=SEED):
     """What is wrong with the run with these texts; None where nothing is."""
     ended = run(texts, seed)
     held, refused = reading(texts)
     if refused:
         seat, faults = refused
-        first, _, below = ended.stderr.partition("\n")
-        said = below.rstrip("\n").rpartition(": ")[2]
-        is_right = ended.returncode == 2 and not ended.stdout and first == f"hand refused: {seat}"
-        is_right = is_right and below.startswith(f"  --{seat} ") and said in faults
+        given, said, hand = below_refusal(ended.stderr)
+        is_right = ended.returncode == 2 and not ended.stdout and ended.stderr.startswith(f"hand refused: {seat}\n")
+        is_right = is_right and given.startswith(f"  --{seat} ") and said in faults
+        is_right = is_right and (hand is None or is_likely(hand, texts[SEATS.index(seat)]))
         return None if is_right else f"{texts}: status {ended.returncode}, {ended.stderr!r}, not {refused}"
     deal = re.search(r'^\[Deal "N:(.*)"\]$', ended.stdout, re.M)
     if ended.returncode != 0 or ended.stderr or not deal:
@@ -168,8 +183,8 @@ def told(texts, seat, rule):
     """What is wrong with what is said of a text whose fault is known by hand."""
     if reading(texts)[1][0] != seat:
         return f"{texts}: the second reading is wrong"
-    last = run(texts, SEED).stderr.rstrip("\n").rpartition(": ")[2]
-    return complaint(texts) or (None if last == rule else f"{texts}: said {last!r}, not {rule!r}")
+    _, said, _ = below_refusal(run(texts, SEED).stderr)
+    return complaint(texts) or (None if said == rule else f"{texts}: said {said!r}, not {rule!r}")
 
 
 def alone(text, place):
