@@ -224,14 +224,14 @@ def of_refused_values():
     for more, line, advice in (
         (["--first", "1099511627776"], "plan refused: range", "--candidates 1: 0 to 0 from this --first on"),
         (["--first", "1099511627777"], "plan refused: range", "--first 1099511627777: 0 to 1099511627776"),
-        (["--workers", "17"], "plan refused: workers", "--workers 17: 1 to 16 workers"),
-        (["--lane", "0"], "plan refused: lane capacity", "--lane 0: 1 to 4096 verdicts"),
+        (["--workers", "17"], "plan refused: workers", "--workers 17: 1 to 16 workers, or auto"),
+        (["--lane", "0"], "plan refused: lane capacity", "--lane 0: 1 to 4096 deals"),
         (["--boards", "0"], "plan refused: boards", "--boards 0: 1 to 4294967295 boards"),
         (["--first-board", "0"], "plan refused: first board", "--first-board 0: 1 to 1099511627776"),
         (["--event", 'a"b'], "label refused: event", f'--event "a"b": {LABEL}\n  hint: write a\'b'),
         (["--site", "a\\bc" * 30], "label refused: site", f'--site "{SHOWN}..": {LABEL}'),
         (["--date", "2024-05-01"], "label refused: date", f'--date "2024-05-01": {DATE}\n  hint: write 2024.05.01'),
-        (["--west", "A10..."], "hand refused: west", '--west "A10...": a ten is written T'),
+        (["--west", "A10..."], "hand refused: west", '--west "A10...": a ten is written T\n  hint: write AT...'),
         (
             ["--north", "A...", "--east", "KA..."],
             "hand refused: east",

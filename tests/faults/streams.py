@@ -46,7 +46,7 @@ def of_output():
         yield Check(f"an output that can only be read, {words}", f"$DEALS {words} 1</dev/null", 4, err=failed(words, errno.EBADF))
         yield Check(f"nobody reads, {words}", f"exec $DEALS {words}", 4, err=failed(words, errno.EPIPE), output="broken")
         yield Check(f"nothing more fits, {words}", f"exec $DEALS {words}", 4, err=failed(words, errno.EAGAIN), output="stuck")
-    below = b"  --lane 0: 1 to 4096 verdicts\n"
+    below = b"  --lane 0: 1 to 4096 deals\n"
     line = b"condition refused at byte 0: unknown word\n"
     where = "make --seed 7 --candidates 1 --where y"
     for words, status, text in (
