@@ -348,7 +348,7 @@ class Checks:
             for step in steps:
                 it.put(step, "#!/bin/sh\necho 'part: 20 passed, 0 failed, 1 s'; sleep 0.1; echo '20 passed, 0 failed'\n")
                 os.chmod(it.path(step), 0o755)
-            says = "echo 'rt: low proved'; echo 'rt: low: trying its must-fail edits (1)'; sleep 3\n" + DOES
+            says = "echo 'rt: low proved'; echo 'rt: low: trying its must-fail edits (1)'; sleep 7\n" + DOES
             it.works_by(says + "echo '3 passed, 0 failed'\n")
             environment = it.environment()
             end = subprocess.run([it.path("check")], cwd="/", env=environment, capture_output=True, timeout=PATIENCE)
