@@ -112,6 +112,10 @@ def searches(desk):
     yield "all is searched", "all is searched" in page and "first=60000005" in page
     find, pick = (line.partition(" > ")[0].partition(" < ")[0] for line in shown_lines(page))
     yield "a search's boards", desk.get(f"{key}/pbn").body == serving.typed(f"{find} | {pick}") != b""
+    key = desk.post("/search", {"seed": "7", "where": "hcp(north)>37", "boards": "1", "candidates": ""}).headers["Location"]
+    yield "no deal meets it", serving.until(lambda: not json.loads(desk.get(f"{key}/state").text)["running"], serving.SECONDS)
+    page = desk.get(key).text
+    yield "nothing to go on with", "all is searched" in page and "Go on from here" not in page
 
 
 def letters(desk):

@@ -47,11 +47,13 @@ QUOTED = re.compile(r'"([^"]*)"')
 
 @dataclasses.dataclass(frozen=True)
 class Answer:
-    """A refusal. `at` and `length` mark characters of the field's text; `mended` is the text as a hint has it."""
+    """A refusal. `excerpt` shows the fault, and `text` says what helps; `at` and `length` mark characters of the field's
+    text; `mended` is the text as a hint has it."""
 
     field: str
     line: str
-    text: str
+    excerpt: str = ""
+    text: str = ""
     at: int | None = None
     length: int = 0
     could: tuple[str, ...] = ()
@@ -114,8 +116,8 @@ def by_pbn(answer: Answer) -> Answer:
     """The answer, where a label that other files take is refused by PBN."""
     if answer.field not in fields.LABELS:
         return answer
-    hints = "\n".join(f"  hint: {hint}" for hint in answer.hints)
-    return dataclasses.replace(answer, line=f"{answer.line}: {BY_PBN}", text=hints)
+    hints = "\n".join(f"hint: {hint}" for hint in answer.hints)
+    return dataclasses.replace(answer, line=f"{answer.line}: {BY_PBN}", excerpt="", text=hints)
 
 
 def read(said: str, form: dict[str, str]) -> Answer:
@@ -123,14 +125,17 @@ def read(said: str, form: dict[str, str]) -> Answer:
     lines = said.rstrip().splitlines() or ["no reason was given"]
     line = lines[0]
     field = field_of(line)
-    text = "\n".join(told for told in lines[1:] if not told.startswith(OF_A_SHELL)).strip("\n")
+    below = [told for told in lines[1:] if not told.startswith(OF_A_SHELL)]
+    marks = 2 if MARK.match("".join(below[1:2])) else 0
+    excerpt = "\n".join(below[:marks])
+    text = "\n".join(told.strip() for told in below[marks:]).strip("\n")
     hints = tuple(HINT.findall(said))
     found = PLACE.search(line)
     if not found:
-        return Answer(field, line, text, hints=hints)
+        return Answer(field, line, excerpt, text, hints=hints)
     asked = form.get(field, "")
     at = characters(asked, int(found[1]))
     mark = MARK.search(said)
     length = min(len(mark[1]) if mark else 1, max(len(asked) - at, 0))
     whole, word = mended(asked, at, length, hints)
-    return Answer(field, line, text, at, length, could_stand(said), hints, whole, word)
+    return Answer(field, line, excerpt, text, at, length, could_stand(said), hints, whole, word)

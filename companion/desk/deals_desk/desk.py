@@ -55,10 +55,10 @@ def bounded(form: words.Form, page: str) -> None:
     """Refuses more boards than a page may have, which `deals` itself would write, and what is empty and may not be."""
     most = desk().runner.limits.boards
     if number(form.get("boards", "")) > most:
-        raise Refused(answers.Answer("boards", f"at most {most} boards on a page", ""))
+        raise Refused(answers.Answer("boards", f"at most {most} boards on a page"))
     for name, needed in fields.NEEDED[page].items():
         if not form[name]:
-            raise Refused(answers.Answer(name, needed.format(most=most), ""))
+            raise Refused(answers.Answer(name, needed.format(most=most)))
 
 
 def checked(command: words.Command, form: dict[str, str]) -> Ended:

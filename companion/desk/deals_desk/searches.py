@@ -73,6 +73,11 @@ class Search:
             return first + int(self.form["candidates"])
         return max(after, first + self.searched())
 
+    @property
+    def has_more(self) -> bool:
+        """Whether deals are left to be searched."""
+        return not self.is_whole or self.form["candidates"] != ""
+
     def stop(self) -> None:
         if self.is_running:
             self.stopped = True

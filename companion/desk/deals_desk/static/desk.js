@@ -51,7 +51,9 @@ function button(text, css, act) {
 function refusal(area, answer) {
   const box = make("div", "", "refusal");
   box.id = area.id + "-refusal";
-  box.append(make("p", answer.line), make("pre", answer.text));
+  box.append(make("p", answer.line));
+  if (answer.excerpt) box.append(make("pre", answer.excerpt));
+  if (answer.text) box.append(make("p", answer.text, "help"));
   if (answer.mended !== null)
     box.append(button("write " + answer.mend, "mend", () => change(area, answer.mended)));
   if (answer.could.length) {
