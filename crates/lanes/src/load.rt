@@ -11,7 +11,7 @@ const FIRST_WAITS: u64 = 4096;
 /// For how many waits it does after the first long yields.
 const FEWEST_WAITS: u64 = 512;
 
-/// The most such waits. With so many little is lost by the yields between.
+/// The most such waits. With this many, little is lost by the yields between.
 const MOST_WAITS: u64 = 16_384;
 
 /// How many times as many follow each time.

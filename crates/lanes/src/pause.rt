@@ -39,14 +39,14 @@ const PARTS_OF_A_LANE: usize = 2;
 /// How many spins without progress an end waits before it yields: some microseconds.
 const PATIENCE: usize = 640;
 
-/// A yield took long if the other end waited meanwhile for so many spins. That is less than its
+/// A yield took long if the other end waited meanwhile for this many spins. That is less than its
 /// patience, since it then yields too.
 const LONG_YIELD: u64 = 384;
 
-/// A long yield shows nothing once so many others came after it.
+/// A long yield shows nothing once this many others came after it.
 const YIELDS_BETWEEN: u32 = 8;
 
-/// After so many yields in one wait, which take some milliseconds, its end sleeps.
+/// After this many yields in one wait, which take some milliseconds, its end sleeps.
 const YIELDS_IN_VAIN: u32 = 8192;
 
 /// The fewest spins without progress before an end of a busy machine sleeps.
@@ -55,17 +55,17 @@ const LEAST_PATIENCE: usize = 64;
 /// The most: longer than it takes to be woken on a quiet machine.
 const MOST_PATIENCE: usize = 16_384;
 
-/// After so many waits with a sleep an end spins that long once: the fewest, and the most.
+/// After this many waits with a sleep an end spins that long once: the fewest, and the most.
 const FEWEST_BEFORE_SPINS: u32 = 2;
 
 const MOST_BEFORE_SPINS: u32 = 64;
 
-/// After so many it yields in one wait, in place of sleeping: the fewest, and the most.
+/// After this many it yields in one wait, in place of sleeping: the fewest, and the most.
 const FEWEST_BEFORE_YIELDS: u32 = 1024;
 
 const MOST_BEFORE_YIELDS: u32 = 16_384;
 
-/// So many yields in that wait show that the machine isn't busy: else the other end would have had
+/// This many yields in that wait show that the machine isn't busy: else the other end would have had
 /// its turn during the first ones.
 const SHORT_YIELDS: u32 = 16;
 
@@ -80,7 +80,7 @@ struct Trial {
 }
 
 impl Trial {
-    /// One that is due after so many waits with a sleep.
+    /// One that is due after this many waits with a sleep.
     fn after(sleeps: u32) -> Trial {
         Trial {
             left: sleeps,

@@ -81,12 +81,12 @@ south_read : (stage : Stage) (fixed : List (Option Seat)) (west south : List Boo
     → IsPossible stage fixed west south deal → c < 52 → in_south stage south c ≡ is_south stage (holder deal c)
 south_read OneHand fixed west south deal c ok h = refl
 south_read TwoHands fixed west south deal c ok h = ap (λ hand. holds_card hand c) (sym (ok.south_is refl))
-    ∙ read_hand deal South c ok.completion.partition h
+    ∙ read_hand deal South c ok.completion.keeps.partition h
 
 west_read : (stage : Stage) (fixed : List (Option Seat)) (west south : List Bool) (deal : List Seat) (c : ℕ)
     → IsPossible stage fixed west south deal → c < 52 → holds_card west c ≡ is_at West (holder deal c)
 west_read stage fixed west south deal c ok h = ap (λ hand. holds_card hand c) (sym ok.completion.hand)
-    ∙ read_hand deal West c ok.completion.partition h
+    ∙ read_hand deal West c ok.completion.keeps.partition h
 
 found : (fixed : List (Option Seat)) (c : ℕ) (q : Seat) → get_or fixed c None ≡ Some q → slice_get fixed c ≡ Some (Some q)
 found [] c q e = absurd (cc)
@@ -108,7 +108,7 @@ each_card : (bound : Bound) (stage : Stage) (fixed : List (Option Seat)) (west s
     (weight_at a c (holder deal c)) (holds_card west c) (in_south stage south c)
 each_card bound stage fixed west south deal a c ok h =
     rw (west_read stage fixed west south deal c ok h, south_read stage fixed west south deal c ok h)
-    (either_at bound stage a c (get_or fixed c None) (holder deal c) (λ q e. read deal c q (ok.completion.fixed_stay c q (found fixed c q e))))
+    (either_at bound stage a c (get_or fixed c None) (holder deal c) (λ q e. read deal c q (ok.completion.keeps.fixed_stay c q (found fixed c q e))))
 
 -- ---- all cards
 
@@ -151,7 +151,7 @@ bounds Least stage fixed a e west south deal k ok total hw tw hs ts =
       tw,
       hs,
       ts,
-      counted_least deal ok.completion.partition a,
+      counted_least deal ok.completion.keeps.partition a,
       all_cards (taken_for Least stage fixed a) (held_at a West (holds_card west)) (held_at a South (in_south stage south))
           (λ c. weight_at a c (holder deal c)) (taken_at Least stage fixed a (holds_card west)) (taken_at Least stage fixed a (in_south stage south))
           (λ c h. each_card Least stage fixed west south deal a c ok h) pack in_pack,
@@ -164,7 +164,7 @@ bounds Greatest stage fixed a e west south deal k ok total hw tw hs ts =
       tw,
       hs,
       ts,
-      counted_most deal ok.completion.partition a,
+      counted_most deal ok.completion.keeps.partition a,
       all_cards (λ c. weight_at a c (holder deal c)) (taken_at Greatest stage fixed a (holds_card west))
           (taken_at Greatest stage fixed a (in_south stage south))
           (taken_for Greatest stage fixed a) (held_at a West (holds_card west)) (held_at a South (in_south stage south))

@@ -27,7 +27,7 @@ use Rattle.conditions.proofs.HandBounds.{both, thirteen}
 use Rattle.screens.specs.Facts.{IsTrueOf}
 use Rattle.screens.specs.Held.{card_share, fact_on, had, heaviest, heaviest_of}
 use Rattle.screens.specs.SingleCards.{counts_for, rank_weight, whose}
-use Rattle.screens.specs.Never.{Keeps}
+use Rattle.screens.specs.Completions.{Keeps}
 
 -- ---- sums
 

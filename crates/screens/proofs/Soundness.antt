@@ -4,7 +4,8 @@ use Rattle.cards.specs.declared.seat.Seat.{Seat}
 use Rattle.cards.specs.Fixed.{IsFixed}
 use Rattle.conditions.specs.Form.{Form, all_of, any_of, balanced, compare, loose_pattern, loose_shape, negation, pattern, shape, stops, within}
 use Rattle.conditions.specs.Meaning.{holds}
-use Rattle.screens.specs.Never.{Keeps, is_never_part}
+use Rattle.screens.specs.Completions.{Keeps}
+use Rattle.screens.specs.Never.{is_never_part}
 use Rattle.screens.specs.Torn.{is_torn}
 use Rattle.screens.proofs.Tearing.{torn}
 use Rattle.screens.proofs.Truths.{all_true, both_sides}

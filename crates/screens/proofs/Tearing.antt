@@ -11,7 +11,7 @@ use Rattle.conditions.specs.Form.{Form}
 use Rattle.conditions.specs.Meaning.{holds}
 use Rattle.screens.specs.declared.unmet.wholes.Whole.{Whole}
 use Rattle.screens.specs.Facts.{AreTrueOf}
-use Rattle.screens.specs.Never.{Keeps}
+use Rattle.screens.specs.Completions.{Keeps}
 use Rattle.screens.specs.Torn.{all_suits, asks_ranks, hands_tear, is_torn, is_torn_by_measure, is_torn_by_ranks}
 use Rattle.screens.specs.Torn.{is_torn_in, ranks_tear, shapes_tear, suit_measures_tear, suit_ranks_tear, suits_tear}
 use Rattle.screens.specs.Wholes.{IsWholeOf, facts_on, hand_measure, hand_shape, honours_by, pack_measure, pack_ranks}

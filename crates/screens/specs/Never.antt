@@ -1,20 +1,11 @@
 -- Conditions that no deal around some fixed cards meets. What it is worth is the clause `sound` of
 -- `is_never`.
-use Rattle.std.specs.Prelude.{◌≡◌, ℕ, ◌&&◌, ◌||◌, nat_le, Bool, true, false, List, Option, Some}
-use Rattle.std.specs.Prelude.{slice_get}
+use Rattle.std.specs.Prelude.{◌&&◌, ◌||◌, nat_le, Bool, true, false, List, Option, Some}
 use Rattle.cards.specs.declared.seat.Seat.{Seat}
-use Rattle.cards.specs.Deals.{IsPartition}
 use Rattle.conditions.specs.Form.{Form, all_of, any_of}
 use Rattle.conditions.specs.Limits.{parts_of}
 use Rattle.screens.specs.declared.unmet.never.TheConstants.{MOST_LOOKED_AT}
 use Rattle.screens.specs.Torn.{is_torn}
-
--- each seat has thirteen cards, and each fixed card is at its seat
-pub record Keeps (fixed : List (Option Seat)) (deal : List Seat) : Type 0 where
-  pub partition : IsPartition deal
-  pub fixed_stay : (card : ℕ) (seat : Seat)
-      → slice_get fixed card ≡ Some (Some seat)
-      → slice_get deal card ≡ Some seat
 
 -- no deal meets the tree. Of a conjunction that was looked at as a whole the parts aren't looked at
 -- again, but for alternatives in them

@@ -11,6 +11,7 @@ ghost use Rattle.screens.specs.internal.Gaps.{is_open};
 
 use crate::estimate::Estimate;
 use crate::gap::{Gap, Shift};
+use crate::relation::related_as;
 use crate::stage::{Bound, Stage};
 use cards::{CardWeights, Fixed, Hand};
 use conditions::{Op, Tree, Value};
@@ -76,7 +77,7 @@ impl Test {
             }
             Tree::Negation(inner) => Test::of(alloc, inner, !truth, stage, fixed),
             Tree::Compare { left, op, right } => {
-                Test::of_comparison(alloc, left, op_of_truth(*op, truth), right, stage, fixed)
+                Test::of_comparison(alloc, left, related_as(*op, truth), right, stage, fixed)
             }
             Tree::Within(value, least, most) => {
                 Test::of_range(alloc, value, *least, *most, truth, stage, fixed)
@@ -283,22 +284,5 @@ impl Test {
                 left.excludes_by_parts(west, south) && right.excludes_by_parts(west, south)
             }
         }
-    }
-}
-
-/// The relation that holds if and only if the other one has this truth.
-fn op_of_truth(op: Op, truth: bool) -> Op
-    ensures { (m n : ℕ) → is_related result m n ≡ has_truth truth (is_related op m n) }
-{
-    if truth {
-        return op;
-    }
-    match op {
-        Op::Equal => Op::NotEqual,
-        Op::NotEqual => Op::Equal,
-        Op::Less => Op::AtLeast,
-        Op::AtMost => Op::More,
-        Op::More => Op::AtMost,
-        Op::AtLeast => Op::Less,
     }
 }

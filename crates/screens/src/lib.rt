@@ -11,6 +11,7 @@ mod exclusion;
 mod gap;
 pub mod laws;
 mod parts;
+mod relation;
 mod screen;
 mod shares;
 mod single_cards;

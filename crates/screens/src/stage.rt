@@ -11,9 +11,11 @@ pub(crate) enum Stage {
     TwoHands,
 }
 
-/// A bound of a value: of all deals that are still possible none has less, or none has more.
+/// A bound of a value, over all deals that are still possible.
 #[derive(Clone, Copy)]
 pub(crate) enum Bound {
+    /// None has less.
     Least,
+    /// None has more.
     Greatest,
 }

@@ -139,7 +139,7 @@ fn has_open_length(parts: &Parts, first: usize) -> bool {
         .any(|after| is(parts.at(first.saturating_add(*after)), "x"))
 }
 
-/// The note on lengths that are so many cards, if they are one short line.
+/// The note on lengths that are this many cards, if they are one short line.
 fn said_of_lengths(
     alloc: Global,
     lengths: &[u8],

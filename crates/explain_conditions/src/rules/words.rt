@@ -84,7 +84,7 @@ pub(crate) fn depth_after(depth: usize, part: &[u8]) -> usize {
     }
 }
 
-/// Whether the bytes are printable, with no comment among them, and at most so many.
+/// Whether the bytes are printable, no more than this, and have no comment among them.
 pub(crate) fn is_short_line(bytes: &[u8], most: usize) -> bool {
     let is_plain = |byte: &u8| (32..127).contains(byte) && *byte != b'#';
     bytes.len() <= most && bytes.iter().all(is_plain)

@@ -92,7 +92,7 @@ impl LaneIn {
         is_sent
     }
 
-    /// Wakes the writer, which listens, once so many verdicts wait for it that this is worth it.
+    /// Wakes the writer, which listens, once enough verdicts wait for it.
     #[inline(never)]
     fn wake_if_worth(&mut self)
         ensures ring { self.new.ring ≡ self.old.ring }

@@ -6,7 +6,8 @@ ghost use Rattle.conditions.specs.declared.limits.TheConstants.{MOST_PARTS};
 ghost use Rattle.conditions.specs.Form.{form_of};
 ghost use Rattle.conditions.specs.Limits.{HasAtMostAtoms};
 ghost use Rattle.conditions.specs.Meaning.{holds};
-ghost use Rattle.screens.specs.Never.{Keeps, is_never, is_never_part};
+ghost use Rattle.screens.specs.Completions.{Keeps};
+ghost use Rattle.screens.specs.Never.{is_never, is_never_part};
 
 use crate::room_after;
 use crate::unmet::torn::is_torn;

@@ -5,8 +5,9 @@ ghost use Rattle.conditions.specs.declared.limits.TheConstants.{MOST_PARTS};
 ghost use Rattle.conditions.specs.Form.{form_of};
 ghost use Rattle.conditions.specs.Limits.{HasAtMostAtoms};
 ghost use Rattle.screens.specs.Refuted.{is_never_related, is_never_within, is_refuted};
-ghost use Rattle.screens.specs.Refuted.{is_refuted_shape, related_as, shape_by};
+ghost use Rattle.screens.specs.Refuted.{is_refuted_shape, shape_by};
 
+use crate::relation::related_as;
 use crate::unmet::facts::Facts;
 use crate::unmet::shapes::{
     are_allowed, are_allowed_in_some_order, is_balanced, is_rearrangement, is_same,
@@ -88,23 +89,6 @@ impl Facts {
         } else {
             None
         }
-    }
-}
-
-/// The relation, or where it doesn't hold the one that does.
-fn related_as(op: Op, truth: bool) -> Op
-    ensures { result ≡ related_as op truth }
-{
-    if truth {
-        return op;
-    }
-    match op {
-        Op::Equal => Op::NotEqual,
-        Op::NotEqual => Op::Equal,
-        Op::Less => Op::AtLeast,
-        Op::AtMost => Op::More,
-        Op::More => Op::AtMost,
-        Op::AtLeast => Op::Less,
     }
 }
 

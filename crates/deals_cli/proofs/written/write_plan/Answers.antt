@@ -4,7 +4,7 @@ use Rattle.cards.proofs.AroundDeals.{around_is_partition}
 use Rattle.cards.proofs.AroundLaws.{fixed_stay}
 use Rattle.std.proofs.Common.{subst, sym}
 use Rattle.boards.specs.Plans.{candidate_of}
-use Rattle.screens.specs.Never.{Keeps}
+use Rattle.screens.specs.Completions.{Keeps}
 use Rattle.deals_cli.proofs.written.write_plan.Goals as goal
 
 pub returns-then-is_never-clause-ends : goal.returns-then-is_never-clause-ends
