@@ -315,10 +315,11 @@ tricks_unreported w job report before after old new ready kind ends asked =
 tricks_broken : (s : Search) (l : Look) (form : Form) (c : Cause) (before after old new : Option (List ℕ)) → Means s form
     → (BreaksTold s l form c before after old new × (c ≡ Spawn → new ≡ old))
     ⊎ ((c ≡ Output) × (((line : RefusedLine) × StopsAtLine s l form line before after old new) ⊎ FailsTold s l form before after old new))
-    → ((form : Form) × Means s form × BreaksTold s l form c before after old new) ⊎ ((fault : PickFault) × EndsTold s l fault before after old new)
+    → ((form : Form) × Means s form × BreaksTold s l form c before after old new)
+    ⊎ ((c ≡ Output) × ((fault : PickFault) × EndsTold s l fault before after old new))
 tricks_broken s l form c before after old new means (inl run) = inl (form, means, run.0)
-tricks_broken s l form c before after old new means (inr (is, inl (line, stops))) = inr (Refused line, (form, means, stops))
-tricks_broken s l form c before after old new means (inr (is, inr fails)) = inr (PickInput, (form, means, fails))
+tricks_broken s l form c before after old new means (inr (is, inl (line, stops))) = inr (is, (Refused line, (form, means, stops)))
+tricks_broken s l form c before after old new means (inr (is, inr fails)) = inr (is, (PickInput, (form, means, fails)))
 
 pub tricks_fail : (w : Wish) (job : BoardsJob) (f : Failure) (before after old new : Option (List ℕ))
     → IsReady w (Boards job) → job.tricks ≡ true → EndsReady job (Err f) before after old new

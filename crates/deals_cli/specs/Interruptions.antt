@@ -2,7 +2,7 @@
 use Rattle.std.specs.Prelude.{◌≡◌, ◌⊎◌, ℕ, Bool, List, [], Err, IsSomeAnd, Option, Some, false, true}
 use Rattle.cond_lang.specs.Form.{Form}
 use Rattle.boards.specs.declared.cause.Cause.{Cause}
-use Rattle.boards.specs.declared.cause.Cause.TheVariants.{Memory}
+use Rattle.boards.specs.declared.cause.Cause.TheVariants.{Memory, Output}
 use Rattle.input.specs.FourBytes.{EndsBefore}
 use Rattle.input.specs.declared.numbers.fault.PickFault.{PickFault}
 use Rattle.input.specs.declared.numbers.fault.PickFault.TheVariants as picks
@@ -71,12 +71,12 @@ EndsTold s l picks.Output before after old new = ⊥
 
 -- a wish was broken off for this cause: of a text that needs no run a proper prefix is written. The
 -- output of a `pick`, a `show` or a `make` with tricks may also fail where it passes on what is
--- before a fault of its input
+-- before a fault of its input; no other cause comes there
 abbrev pub BreaksOff : Wish → Cause → (before after old new : Option (List ℕ)) → Type 0
 BreaksOff (make s l false notices) cause before after old new = InterruptsMake s l cause old new
 BreaksOff (make s l true notices) cause before after old new =
     ((form : Form) × Means s form × BreaksTold s l form cause before after old new)
-    ⊎ ((fault : PickFault) × EndsTold s l fault before after old new)
+    ⊎ ((cause ≡ Output) × ((fault : PickFault) × EndsTold s l fault before after old new))
 BreaksOff draw cause before after old new =
     (new ≡ old)
     ⊎ ((bytes : List ℕ) × IsDrawn bytes before after × AppendsPart old new (seed_text bytes))

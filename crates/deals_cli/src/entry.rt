@@ -153,8 +153,8 @@ pub fn program<R: Threads + Wait + Clone + Send + 'static, O: Sink, E: Sink>(
         → O.bytes out.new ≡ O.bytes out.old }
     // The status is 4 if and only if the output failed, once.
     ensures output { O.faults out.new ≡ O.faults out.old + (if result == 4 then 1 else 0) }
-    // With status 0 all that was written is passed on.
-    ensures flushed { result ≡ 0 → O.is_flushed out.new }
+    // With status 0 or 7 all that was written is passed on.
+    ensures flushed { IsFlushedAfter result (O.is_flushed out.new) }
     // With status 0 a report that was asked for is on the error output, unless that failed itself,
     // and else nothing.
     ensures report { result ≡ 0 → HasReport (map string_bytes words.now)

@@ -74,8 +74,11 @@ impl KindSet {
     }
 
     /// The same kinds, as the rules for hints take them.
-    pub(crate) fn kinds(&self) -> Kinds {
-        Kinds { holds: self.holds }
+    pub(crate) fn kinds(&self, asked: TextKind) -> Kinds {
+        Kinds {
+            holds: self.holds,
+            is_question: matches!(asked, TextKind::Question),
+        }
     }
 }
 

@@ -135,7 +135,7 @@ fn put_syntax(
         return Err(AllocError);
     };
     put_expected(alloc, out, &can, names.as_slice(), beginning.is_after_let())?;
-    put_hint(alloc, out, of_syntax(alloc, text, at, &can.kinds()))
+    put_hint(alloc, out, of_syntax(alloc, text, at, &can.kinds(asked)))
 }
 
 /// Whether a definition may begin at the place.
@@ -243,7 +243,7 @@ fn is_never_met(alloc: Global, condition: &[u8]) -> Result<bool, AllocError> {
     }
 }
 
-/// Whether no deal meets the test in the brackets of a class of suits.
+/// Whether no deal meets the test in the brackets of a class.
 fn is_never_met_within(alloc: Global, test: &[u8]) -> Result<bool, AllocError> {
     for class in ONE_OF {
         let text = within(alloc, class, test)?;

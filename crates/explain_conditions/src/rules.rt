@@ -21,6 +21,7 @@ mod outside;
 mod parts;
 mod rule;
 mod samples;
+mod seats;
 mod slips;
 mod tables;
 mod words;

@@ -1,9 +1,7 @@
 -- What a text spells: boards, up to a line that is refused.
 use Rattle.std.specs.Prelude.{◌≡◌, ◌≤◌, ℕ, ◌+◌, ◌^◌, nat_lt, unwrap_or}
-use Rattle.std.specs.Prelude.{List, [], ◌∷◌, ◌++◌, map, Option, None, Some, Result, Ok, Err}
+use Rattle.std.specs.Prelude.{List, [], ◌∷◌, ◌++◌, Option, None, Some, Result, Ok, Err}
 use Rattle.std.specs.Prelude.{if◌then◌else◌}
-use Rattle.boards.specs.declared.board.Board.{Board as ABoard}
-use Rattle.boards.specs.Headings.{HeadingView, no_heading}
 use Rattle.input.specs.NumberTexts.{lines_of}
 use Rattle.input.specs.Games.{game_says, has, no_game, with_tag}
 use Rattle.input.specs.Kinds.{kind_of}
@@ -105,18 +103,6 @@ lines_spell s (l ∷ ls) = line_spells s l (λ t. lines_spell t ls)
 -- what a text spells
 unfoldable pub spelled : List ℕ → Spelled
 spelled text = lines_spell begin_text (lines_of text)
-
--- the boards, without the labels of their games
-abbrev pub boards_of : List Told → List ABoard
-boards_of told = map (λ t. t.board) told
-
--- the labels of the game of the first board
-abbrev pub first_heading : List Told → HeadingView
-first_heading [] = no_heading
-first_heading (t ∷ ts) = t.heading
-
-abbrev pub labels_of : List ℕ → HeadingView
-labels_of text = first_heading (spelled text).boards
 
 -- ---- how far a text can come within this many bytes
 pub record InRoom (s : Reading) (bytes : ℕ) : Type 0 where

@@ -52,7 +52,7 @@ dealer_in value =
     else (if bytes_eq value (codes "S") then Some South
     else (if bytes_eq value (codes "W") then Some West else None)))
 
--- a word in any size of letters
+-- a word in capitals or small letters
 unfoldable pub is_word : List ℕ → List ℕ → Bool
 is_word word value = bytes_eq (map to_ascii_lowercase value) (map to_ascii_lowercase word)
 

@@ -149,8 +149,8 @@ fn caption_in(format: Format, text: &str) -> Option<Caption>
     }
 }
 
-/// Returns the caption of a text that was given. It is refused if and only if it is no event or
-/// site of the format.
+/// Returns the caption of a text that was given. It is refused if and only if the format can't
+/// write it.
 fn label_of(format: Format, text: Option<&str>, name: LabelName) -> Result<Option<Caption>, Failure>
     ensures made { IfOk result (λ l. l ≡ option_map (λ s. s.now) text.entry) }
     ensures sound { IfOk result (λ _. CanLabel format (option_map (λ s. s.now) text.entry)) }

@@ -32,7 +32,7 @@ none_before a first (suc n) lt =
     sum_by-cons (λ (k : ℕ). cond (eqb a k) 1 0) first (range_with_len (first + 1) n)
     ∙ ap₂ (λ (b : Bool) (s : ℕ). cond b 1 0 + s) (ne_eqb a first (λ e. absurd (omega (arith, e, lt)))) (none_before a (first + 1) n (omega arith))
 
-one_among : (a first n : ℕ) → first ≤ a → a < first + n → sum_by (λ (k : ℕ). cond (eqb a k) 1 0) (range_with_len first n) ≡ 1
+pub one_among : (a first n : ℕ) → first ≤ a → a < first + n → sum_by (λ (k : ℕ). cond (eqb a k) 1 0) (range_with_len first n) ≡ 1
 one_among a first zero le lt = absurd (omega arith)
 one_among a first (suc n) le lt =
     sum_by-cons (λ (k : ℕ). cond (eqb a k) 1 0) first (range_with_len (first + 1) n)
@@ -41,7 +41,7 @@ one_among a first (suc n) le lt =
       | inr other ↦ ap₂ (λ (b : Bool) (s : ℕ). cond b 1 0 + s) (ne_eqb a first other) (one_among a (first + 1) n (omega (arith, other)) (omega arith))
     ]
 
-sum_of_both : (f g : ℕ → ℕ) (xs : List ℕ) → sum_by (λ (k : ℕ). f k + g k) xs ≡ sum_by f xs + sum_by g xs
+pub sum_of_both : (f g : ℕ → ℕ) (xs : List ℕ) → sum_by (λ (k : ℕ). f k + g k) xs ≡ sum_by f xs + sum_by g xs
 sum_of_both f g [] = refl
 sum_of_both f g (x ∷ xs) =
     let a = sum_by-cons (λ (k : ℕ). f k + g k) x xs in
@@ -50,11 +50,11 @@ sum_of_both f g (x ∷ xs) =
     let d = sum_of_both f g xs in
     omega (arith, a, b, c, d)
 
-sum_of_none : (xs : List ℕ) → sum_by (λ (k : ℕ). 0) xs ≡ 0
+pub sum_of_none : (xs : List ℕ) → sum_by (λ (k : ℕ). 0) xs ≡ 0
 sum_of_none [] = refl
 sum_of_none (x ∷ xs) = sum_by-cons (λ (k : ℕ). 0) x xs ∙ ap (λ (s : ℕ). 0 + s) (sum_of_none xs)
 
-sum_along : (f g : ℕ → ℕ) (xs : List ℕ) → ((k : ℕ) → f k ≡ g k) → sum_by f xs ≡ sum_by g xs
+pub sum_along : (f g : ℕ → ℕ) (xs : List ℕ) → ((k : ℕ) → f k ≡ g k) → sum_by f xs ≡ sum_by g xs
 sum_along f g [] e = refl
 sum_along f g (x ∷ xs) e = sum_by-cons f x xs ∙ ap₂ (λ (m n : ℕ). m + n) (e x) (sum_along f g xs e) ∙ sym (sum_by-cons g x xs)
 
@@ -101,23 +101,24 @@ least_is_less (a ∷ answers) =
     let g = greatest_so_far (max 0 a) answers in
     omega (arith, l, g)
 
-value_rows : (answers : List ℕ) → sum (map (λ (n : ℕ). count_of n answers) (rows false answers)) ≡ length answers
-value_rows [] = refl
-value_rows (a ∷ answers) =
-    let l = least_so_far a answers in
-    let g = greatest_so_far (max 0 a) answers in
-    let e : least_of (a ∷ answers) + (greatest_of (a ∷ answers) + 1 - least_of (a ∷ answers)) ≡ greatest_of (a ∷ answers) + 1 = omega (arith, l, g) in
-    sum-map (λ (n : ℕ). count_of n (a ∷ answers)) (rows false (a ∷ answers))
-    ∙ counts_sum (least_of (a ∷ answers)) (greatest_of (a ∷ answers) + 1 - least_of (a ∷ answers)) (a ∷ answers)
-    (weaker (least_of (a ∷ answers)) (greatest_of (a ∷ answers) + 1) (least_of (a ∷ answers))
+pub in_value_rows : (answers : List ℕ) → AreIn (least_of answers) (least_of answers + (greatest_of answers + 1 - least_of answers)) answers
+in_value_rows [] = tt
+in_value_rows (a ∷ answers) =
+    let l = least_is_less (a ∷ answers) in
+    weaker (least_of (a ∷ answers)) (greatest_of (a ∷ answers) + 1) (least_of (a ∷ answers))
     (least_of (a ∷ answers) + (greatest_of (a ∷ answers) + 1 - least_of (a ∷ answers))) (a ∷ answers)
-    (omega arith) (omega (arith, e)) (from_least (a ∷ answers)))
+    (omega arith) (omega (arith, l)) (from_least (a ∷ answers))
+
+value_rows : (answers : List ℕ) → sum (map (λ (n : ℕ). count_of n answers) (rows false answers)) ≡ length answers
+value_rows answers =
+    sum-map (λ (n : ℕ). count_of n answers) (rows false answers)
+    ∙ counts_sum (least_of answers) (greatest_of answers + 1 - least_of answers) answers (in_value_rows answers)
 
 no_or_yes : (b : Bool) → cond b 1 0 < 2
 no_or_yes true = omega arith
 no_or_yes false = omega arith
 
-all_no_or_yes : (question : Question) (deals : List (List Seat)) → is_condition question ≡ true → AreIn 0 2 (answers_of question deals)
+pub all_no_or_yes : (question : Question) (deals : List (List Seat)) → is_condition question ≡ true → AreIn 0 2 (answers_of question deals)
 all_no_or_yes (asks_condition tree) [] is = tt
 all_no_or_yes (asks_condition tree) (deal ∷ deals) is = (omega arith, no_or_yes (holds tree deal), all_no_or_yes (asks_condition tree) deals is)
 all_no_or_yes (asks_value value) deals is = cc

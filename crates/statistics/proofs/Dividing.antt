@@ -1,5 +1,6 @@
 -- Quotients.
 use Rattle.std.proofs.Common.{◌≡◌, ◌∙◌, ◌≤◌, ◌<◌, ◌+◌, ◌*◌, ◌/◌, ◌%◌, ◌^◌, ℕ, sym, ap, arith}
+use Rattle.statistics.specs.internal.Kept.{most_squared}
 use Rattle.std.proofs.Math.Nat.{mul-add-div, div-add-mod, div-le_of_le-mul, mul_left_comm, mul-add}
 
 -- a product is divided without being taken: m * s / d
@@ -11,8 +12,8 @@ divided_in_parts m s d some =
     ∙ ap (λ n. m * n) (div-add-mod s d) in
     sym (mul-add-div some (m * (s / d)) (m * (s % d))) ∙ ap (λ n. n / d) e
 
--- millionths of a fraction of at most 2^47
-pub millionths_fit : (s d : ℕ) → s ≤ d * 2 ^ 47 → 1000000 * s / d < 2 ^ 68
+-- millionths of a fraction of at most 2^40
+pub millionths_fit : (s d : ℕ) → s ≤ d * most_squared → 1000000 * s / d < 2 ^ 68
 millionths_fit s d whole =
-    let h : 1000000 * s ≤ d * (1000000 * 2 ^ 47) = omega arith in
+    let h : 1000000 * s ≤ d * (1000000 * most_squared) = omega arith in
     omega (arith, div-le_of_le-mul d h)

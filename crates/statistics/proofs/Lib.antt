@@ -22,4 +22,5 @@ pub mod TwoPage
 pub mod Shading
 pub mod Bodies
 pub mod Adding
+pub mod AddingTwo
 pub mod Shards

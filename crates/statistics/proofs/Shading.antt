@@ -8,7 +8,7 @@ use Rattle.statistics.specs.declared.two.table.Line.TheVariants.{All, CsvRow, He
 use Rattle.statistics.specs.declared.two.page.PageLine.{PageLine}
 use Rattle.statistics.specs.declared.two.page.PageLine.TheVariants.{Cells, Heads, Means, Totals}
 use Rattle.statistics.specs.internal.Kept.{KeptTwo, cell_at}
-use Rattle.statistics.specs.internal.Lines.{CanShade, IsLine, means_of, row_of, totals_of}
+use Rattle.statistics.specs.internal.Lines.{CanShade, IsLine, row_of}
 use Rattle.statistics.specs.internal.PageLines.{IsPageLine, IsShaded, columns_of_two, most_for, most_in_row, most_kept}
 use Rattle.statistics.specs.internal.Texts.{rows_of_one}
 use Rattle.statistics.proofs.Most.{most_up_to}
@@ -35,14 +35,6 @@ pub is_line : (two : KeptTwo) (style : LineStyle) (n : ℕ) → n < length two.o
 is_line two Table n low le lt = low
 is_line two Csv n low le lt = low
 is_line two Html n low le lt = record { within = low; up_to = λ m ge below. cell_up_to two n m le lt ge below }
-
-pub are_totals : (two : KeptTwo) (style : LineStyle) → IsLine two (totals_of style)
-are_totals two Table = tt
-are_totals two _ = tt
-
-pub are_means : (two : KeptTwo) (style : LineStyle) → IsLine two (means_of style)
-are_means two Table = tt
-are_means two _ = tt
 
 on_page : (two : KeptTwo) (line : PageLine) (m : ℕ) → IsPageLine two line → (columns_of_two two).first ≤ m
     → m < (columns_of_two two).end → IsShaded two line m

@@ -6,11 +6,12 @@ ghost use Rattle.cards.specs.declared.seat.Seat.{Seat};
 ghost use Rattle.conditions.specs.Questions.{Question, is_condition};
 ghost use Rattle.statistics.specs.Answers.{answers_of, count_of, rows};
 ghost use Rattle.statistics.specs.Columns.{commas};
-ghost use Rattle.statistics.specs.Counting.{Subject, csv_text};
+ghost use Rattle.statistics.specs.Counting.{Subject, csv_text, pairs_of};
 ghost use Rattle.statistics.specs.OneQuestion.{blocks, mean_text, row};
 ghost use Rattle.statistics.specs.Rounded.{whole_root};
 ghost use Rattle.statistics.specs.Sentence.{sentence};
 ghost use Rattle.statistics.specs.Shards.{AddUp};
+ghost use Rattle.statistics.specs.TwoQuestions.{cell, in_column, of_columns, of_rows};
 
 /// A number is no wider than a greater one, so that the greatest of a column tells its width.
 pub fn no_number_is_narrower()
@@ -46,4 +47,17 @@ pub fn rows_sum_to_all()
         → let answers = answers_of question deals in
         sum (map (λ n. count_of n answers) (rows (is_condition question) answers))
         ≡ length deals }
+{}
+
+/// The cells of a row of two questions have all deals of the row, each once, and those of a column
+/// all deals of the column.
+pub fn cells_sum_to_all()
+    ensures row { (of by : Question) (deals : List (List Seat)) (n : ℕ)
+        → let pairs = pairs_of of by deals in
+        sum (map (λ m. cell pairs n m) (rows (is_condition by) (of_columns pairs)))
+        ≡ count_of n (of_rows pairs) }
+    ensures column { (of by : Question) (deals : List (List Seat)) (m : ℕ)
+        → let pairs = pairs_of of by deals in
+        sum (map (λ n. cell pairs n m) (rows (is_condition of) (of_rows pairs)))
+        ≡ length (in_column m pairs) }
 {}

@@ -4,6 +4,7 @@ ghost use Rattle.std.specs.Prelude.{◌≡◌, ◌≤◌, ◌<◌, ◌+◌, ◌*
 ghost use Rattle.std.specs.Prelude.{length};
 ghost use Rattle.boards.specs.declared.buffer.TheConstants.{CAPACITY};
 ghost use Rattle.statistics.specs.Counting.{most_counted};
+ghost use Rattle.statistics.specs.internal.Kept.{most_squared};
 ghost use Rattle.statistics.specs.Columns.{commas, label, right};
 ghost use Rattle.statistics.specs.OneQuestion.{bar, bar_len, blocks, deviation, line, mean_text};
 ghost use Rattle.statistics.specs.OneQuestion.{row};
@@ -152,7 +153,7 @@ pub(crate) fn put_mean(text: &mut TextBuffer, deals: u64, total: u64, squared: u
     requires some { 0 < deals }
     requires deals { deals ≤ 2 ^ 40 }
     requires total { total ≤ deals * most_counted }
-    requires squared { squared ≤ deals * 2 ^ 47 }
+    requires squared { squared ≤ deals * most_squared }
     requires room { length text.old + 200 ≤ CAPACITY }
     ensures text { text.new ≡ text.old ++ mean_text deals total squared }
     ensures most { length text.new ≤ length text.old + 106 }
@@ -173,7 +174,7 @@ fn deviation(deals: u128, total: u128, squared: u128) -> u64
     requires some { 0 < deals }
     requires deals { deals ≤ 2 ^ 40 }
     requires total { total ≤ deals * most_counted }
-    requires squared { squared ≤ deals * 2 ^ 47 }
+    requires squared { squared ≤ deals * most_squared }
     ensures { result ≡ deviation deals total squared }
 {
     let spread = (deals * squared).saturating_sub(total * total);
@@ -184,7 +185,7 @@ fn deviation(deals: u128, total: u128, squared: u128) -> u64
 fn millionths(spread: u128, divisor: u128) -> u128
     requires divisor { 0 < divisor }
     requires below { divisor ≤ 2 ^ 80 }
-    requires whole { spread ≤ divisor * 2 ^ 47 }
+    requires whole { spread ≤ divisor * most_squared }
     ensures value { result ≡ 10 ^ 6 * spread / divisor }
     ensures most { result < 2 ^ 68 }
 {

@@ -1,6 +1,7 @@
 //! The numbers that have a row, or a column.
 
 ghost use Rattle.std.specs.Prelude.{◌≡◌, ◌≤◌, ◌<◌, ◌^◌, length};
+ghost use Rattle.statistics.specs.Counting.{most_counted};
 ghost use Rattle.statistics.specs.internal.Texts.{most_of, rows_shown};
 
 use crate::sums::Sums;
@@ -15,7 +16,7 @@ pub(crate) struct Rows {
 /// Returns the numbers that have a row: of a condition 0 and 1, of a value those from the least to
 /// the greatest that came.
 pub(crate) fn rows_shown(is_condition: bool, sums: &Sums) -> Rows
-    requires { sums.now.greatest < 2 ^ 24 }
+    requires { sums.now.greatest ≤ most_counted }
     ensures { result ≡ rows_shown is_condition sums.now }
 {
     if is_condition {

@@ -5,8 +5,9 @@
 //!
 //! | Placeholder | What it means |
 //! |---|---|
-//! | `%uN` | `%nN` if it is a seat after a bracket, else the part in front of that if it is one, |
-//! | | else the last seat before the fault, or `north`: `%u2` fits `word(seat` and `word seat` |
+//! | `%uN` | the seat that begins with `%nN` after a bracket, as `partner(north)`, or is in front |
+//! | | of it, else the last seat before the fault, or `north`: `%u2` fits `word(seat` and |
+//! | | `word seat` |
 //! | `%mN` | the part with the fault in small letters |
 //! | `%zN` | the number `%nN` without zeros in front |
 //! | `%iN` | the number `%bN` and one more |
@@ -26,18 +27,19 @@
 
 use crate::rules::amounts::{Amount, amount_at, counted_at, ordered};
 use crate::rules::hint::Said;
-use crate::rules::lists::{ENDS, STARTS, THROUGH};
+use crate::rules::lists::{BINDS, CLASSES, ENDS, STARTS};
 use crate::rules::outside::tests_that_name;
 use crate::rules::parts::Parts;
 use crate::rules::rule::{fits, without_zeros};
 use crate::rules::samples::{comparison, sample};
-use crate::rules::words::{is, is_one_of, is_seat, number};
+use crate::rules::seats::seat_at;
+use crate::rules::words::{is, is_one_of, number};
 use cond_lang::{CondError, Token, WORDS, parse};
 use itoa::Buffer;
 use std::alloc::{AllocError, Global};
 
-/// The classes of suits of which one suit may meet a test.
-pub const ONE_OF: [&str; 3] = ["suit", "major", "minor"];
+/// The classes of which one suit or one seat may meet a test.
+pub const ONE_OF: [&str; 6] = ["suit", "major", "minor", "seat", "ns", "ew"];
 
 /// What comes after a word and a seat, where it isn't a suit or the bracket.
 static AFTER_SEATS: &[(&str, &str)] = &[
@@ -170,7 +172,7 @@ fn is_accepted_in(alloc: Global, parts: &Parts, condition: &[u8]) -> Result<bool
     if is_accepted(alloc, condition)? {
         return Ok(true);
     }
-    if !parts.has(THROUGH) {
+    if !parts.has(BINDS) {
         return Ok(false);
     }
     for class in ONE_OF {
@@ -181,7 +183,7 @@ fn is_accepted_in(alloc: Global, parts: &Parts, condition: &[u8]) -> Result<bool
     Ok(false)
 }
 
-/// Returns the condition that some suit of the class meets the test.
+/// Returns the condition that some suit or seat of the class meets the test.
 ///
 /// # Errors
 /// `AllocError` if an allocation failed.
@@ -233,11 +235,7 @@ fn text_of<'t>(parts: &'t Parts, kind: u8, back: usize, next: usize) -> &'t [u8]
     match kind {
         b'b' => parts.at(back),
         b'n' => parts.at(next),
-        b'u' if is(parts.at(next.saturating_sub(1)), "(") && is_seat(parts.at(next)) => parts.at(
-            next,
-        ),
-        b'u' if is_seat(parts.at(next.saturating_sub(1))) => parts.at(next.saturating_sub(1)),
-        b'u' => parts.last_seat(),
+        b'u' => seat_at(parts, next),
         b'm' => parts.word.as_slice(),
         b'w' => parts.call(),
         b'z' => without_zeros(parts.at(next)),
@@ -276,7 +274,11 @@ fn put_after_seat(out: &mut Vec<u8>, parts: &Parts, word: &[u8]) -> Result<(), A
         return out.extend_from_slice(after_seat(word).as_bytes());
     }
     let class = parts.class();
-    let suit = if class.is_empty() { b"spades" } else { class };
+    let suit = if is_one_of(class, CLASSES) {
+        class
+    } else {
+        b"spades"
+    };
     put_all(out, &[b",", suit, b")"])
 }
 

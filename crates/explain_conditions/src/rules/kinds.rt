@@ -9,6 +9,8 @@ pub struct Kinds {
     ///
     /// [`Kind::ALL`]: cond_lang::Kind::ALL
     pub holds: [bool; Kind::COUNT],
+    /// Whether they are those of a question.
+    pub is_question: bool,
 }
 
 impl Kinds {
@@ -16,6 +18,7 @@ impl Kinds {
     pub(crate) fn none() -> Kinds {
         Kinds {
             holds: [false; Kind::COUNT],
+            is_question: false,
         }
     }
 

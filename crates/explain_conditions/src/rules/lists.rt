@@ -11,6 +11,9 @@ pub(crate) const CLASSES: &str = "suit major minor other";
 /// What goes through a class.
 pub(crate) const THROUGH: &str = "any every";
 
+/// What binds a class.
+pub(crate) const BINDS: &str = "any every let";
+
 static LISTS: [(&str, &str); 22] = [
     ("STARTS", STARTS),
     ("ENDS", ENDS),

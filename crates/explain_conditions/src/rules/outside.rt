@@ -72,7 +72,7 @@ fn outside_of(parts: &Parts, class: &[u8], start: usize) -> Option<Outside> {
 }
 
 /// Where the bracket is that closes the one at `open`.
-fn closing(parts: &Parts, open: usize) -> Option<usize> {
+pub(crate) fn closing(parts: &Parts, open: usize) -> Option<usize> {
     let mut depth: usize = 0;
     for i in open..parts.count() {
         depth = depth_after(depth, parts.at(i));

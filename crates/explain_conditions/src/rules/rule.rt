@@ -11,6 +11,7 @@
 //! | `In:T`, `NotIn:T` | the fault is in the brackets of one of the words T, or of none of them |
 //! | `InCall`, `NotInCall` | it is in the brackets of a word that takes a seat, or of none |
 //! | `InCount` | it is in the brackets of a word that counts something |
+//! | `InQuestion` | the text was read as a question |
 //! | `T`, `Except:T` | one of the texts T, or none of them |
 //! | `Named:T` | the part with the fault is one of them, in letters of any size, and a whole word |
 //! | `Begins:T` | it begins with one of them |
@@ -32,6 +33,7 @@
 //! | `Count`, `NoValue` | a word that counts something; neither that nor a number |
 //! | `Value`, `Call` | the last part of a value, or the bracket that ends one |
 //! | `Bracketed`, `Chained` | the last part of a value after a bracket, or after a comparison |
+//! | `Through` | the last part of a value after the bracket of `any` or `every` |
 //! | `Suffix:S` | the sign S right after a part and apart from the next |
 //! | `Amount`, `Counted` | an amount, as `15-17`, or one with a word that says of what |
 //!
@@ -40,11 +42,11 @@
 //! language's own.
 
 use crate::rules::amounts::{amount_at, counted_at};
-use crate::rules::lists::listed;
+use crate::rules::lists::{THROUGH, listed};
 use crate::rules::parts::Parts;
 use crate::rules::words::{
-    are_ranks, is, is_call, is_count, is_name, is_number, is_order, is_relation, is_seat, is_suit,
-    is_word, measure_word, number, token_of,
+    are_ranks, is, is_call, is_count, is_name, is_number, is_one_of, is_order, is_relation,
+    is_seat, is_suit, is_word, measure_word, number, token_of,
 };
 use cond_lang::{Class, Kind};
 
@@ -54,7 +56,7 @@ const MEASURES: &str = "MEASURES";
 const ORDERS: &str = "ORDERS";
 
 /// The kinds of tokens that rules ask for.
-static KINDS: [(&str, Kind); 17] = [
+static KINDS: [(&str, Kind); 19] = [
     ("Let", Kind::Let),
     ("Is", Kind::Is),
     ("Not", Kind::Not),
@@ -72,6 +74,8 @@ static KINDS: [(&str, Kind); 17] = [
     ("SuitClass", Kind::Class(Class::Suit)),
     ("MajorClass", Kind::Class(Class::Major)),
     ("MinorClass", Kind::Class(Class::Minor)),
+    ("NorthSouthClass", Kind::Class(Class::NorthSouth)),
+    ("EastWestClass", Kind::Class(Class::EastWest)),
 ];
 
 /// Whether the pattern fits the fault.
@@ -135,6 +139,7 @@ fn is_wanted(parts: &Parts, i: usize, word: &str) -> bool {
         "InCall" => is_call(parts.call()),
         "NotInCall" => !is_call(parts.call()),
         "InCount" => is_count(parts.call()),
+        "InQuestion" => parts.can.is_question,
         "Except" => !is_among(part, texts),
         "Named" => !parts.is_cut() && is_among(parts.word.as_slice(), texts),
         "Begins" => begins_with(part, texts),
@@ -195,6 +200,7 @@ fn is_wanted_by_value(parts: &Parts, i: usize, word: &str) -> bool {
         "Value" => parts.value(i).is_some(),
         "Call" => is(parts.at(i), ")") && parts.value(i).is_some(),
         "Bracketed" => is(before_value(parts, i), "(") && parts.value(i).is_some(),
+        "Through" => is_one_of(word_before_value(parts, i), THROUGH) && parts.value(i).is_some(),
         "Chained" => is_relation(before_value(parts, i)),
         "Amount" => amount_at(parts, i).is_some(),
         "Counted" => counted_at(parts, i).0 != "",
@@ -205,6 +211,11 @@ fn is_wanted_by_value(parts: &Parts, i: usize, word: &str) -> bool {
 /// The part before the value that ends with this part.
 fn before_value<'t>(parts: &Parts<'t>, last: usize) -> &'t [u8] {
     parts.at(parts.value_start(last).saturating_sub(1))
+}
+
+/// The word before the class and the bracket in front of the value that ends with this part.
+fn word_before_value<'t>(parts: &Parts<'t>, last: usize) -> &'t [u8] {
+    parts.at(parts.value_start(last).saturating_sub(3))
 }
 
 /// The digits without the zeros in front, but for the last.

@@ -97,8 +97,8 @@ impl Reading {
         self.leave_line();
     }
 
-    /// Takes the end of a tag, before which a game ends that has such a tag. Returns whether it
-    /// had a board, which is then told.
+    /// Takes the end of a tag. A game that has a tag of this kind already ends before it. Returns
+    /// whether that had a board, which is then told.
     fn take_tag(&mut self, told: &mut Told) -> Result<bool, RefusedRecord>
         requires { InRoom self.old (2 ^ 62) }
         ensures takes { IfOk result (λ ended. (next : Reading → Spelled)

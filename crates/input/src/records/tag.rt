@@ -31,10 +31,10 @@ pub(crate) struct Tag<'a> {
 
 /// How a tag begins: its name, the kind that the name has, and what comes after the first quote.
 #[derive(Clone, Copy)]
-pub struct Opening<'a> {
-    pub name: &'a [u8],
-    pub kind: Option<TagKind>,
-    pub after: &'a [u8],
+pub(crate) struct Opening<'a> {
+    pub(crate) name: &'a [u8],
+    pub(crate) kind: Option<TagKind>,
+    pub(crate) after: &'a [u8],
 }
 
 /// Which bytes stand for themselves in a value: all but a quote, a backslash, LF and CR.

@@ -44,7 +44,7 @@ fn is_unescaped(value: &[u8]) -> bool
     value.iter().all(|byte| *byte != b'\\')
 }
 
-/// The event or the site of a value, unless it is none.
+/// The event or the site that a value tells, if it tells one.
 pub(crate) fn label_in(value: &[u8]) -> Option<Caption>
     ensures { result ≡ label_in value.now }
 {
@@ -57,7 +57,7 @@ pub(crate) fn label_in(value: &[u8]) -> Option<Caption>
     }
 }
 
-/// The date of a value, unless it is none.
+/// The date that a value tells, if it tells one.
 pub(crate) fn date_in(value: &[u8]) -> Option<Date>
     ensures { result ≡ date_in value.now }
 {
@@ -85,7 +85,7 @@ pub(crate) fn dealer_in(value: &[u8]) -> Option<Seat>
     }
 }
 
-/// Whether the value is this word, in any size of letters.
+/// Whether the value is this word, in capitals or small letters.
 fn is_word(value: &[u8], word: &[u8]) -> bool
     ensures { result ≡ is_word word.now value.now }
 {

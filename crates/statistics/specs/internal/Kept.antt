@@ -28,13 +28,17 @@ with_one sums answer = record {
   greatest = max sums.greatest answer;
 }
 
+-- the square of an answer that is counted is at most that
+abbrev pub most_squared : ℕ
+most_squared = 2 ^ 40
+
 -- the sums are those of few and small answers
 pub record AreSmall (sums : Sums) : Type 0 where
   pub deals : sums.deals ≤ most_deals
   pub sum : sums.sum ≤ sums.deals * most_counted
-  pub squares : sums.squares ≤ sums.deals * 2 ^ 47
-  pub least : sums.least < 2 ^ 24
-  pub greatest : sums.greatest < 2 ^ 24
+  pub squares : sums.squares ≤ sums.deals * most_squared
+  pub least : sums.least ≤ most_counted
+  pub greatest : sums.greatest ≤ most_counted
 
 -- the number at each index is the one that f gives it
 abbrev pub IsListOf : (ℕ → ℕ) → List ℕ → Type 0

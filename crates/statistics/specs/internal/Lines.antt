@@ -29,15 +29,6 @@ deals_at two m = slice_index two.column_deals m
 abbrev pub total_at : KeptTwo → ℕ → ℕ
 total_at two m = slice_index two.column_sums m
 
--- a line of values, which has no columns
-abbrev pub is_csv : Line → Bool
-is_csv (CsvRow n) = true
-is_csv Header = false
-is_csv (Row n) = false
-is_csv All = false
-is_csv Mean = false
-is_csv (Page line) = false
-
 -- the number of a row is one that may have a deal
 abbrev pub IsLine : KeptTwo → Line → Type 0
 IsLine two (CsvRow n) = n < length two.of.counts
@@ -147,21 +138,11 @@ row_of Html most n = Page (Cells n most)
 abbrev pub two_row : KeptTwo → LineStyle → ℕ → List ℕ
 two_row two style n = line_text two (row_of style (most_for two style) n)
 
--- the lines of all deals, and of the means
-abbrev pub totals_of : LineStyle → Line
-totals_of Table = All
-totals_of Csv = All
-totals_of Html = Page Totals
-
-abbrev pub means_of : LineStyle → Line
-means_of Table = Mean
-means_of Csv = Mean
-means_of Html = Page Means
-
-abbrev pub totals_kept : KeptTwo → LineStyle → List ℕ
-totals_kept two style =
-    line_text two (totals_of style)
-    ++ (if is_condition two.of.asked.question then [] else line_text two (means_of style))
+-- the line of all deals, and of a value that of the means
+abbrev pub totals_kept : KeptTwo → (all mean : Line) → List ℕ
+totals_kept two all mean =
+    line_text two all
+    ++ (if is_condition two.of.asked.question then [] else line_text two mean)
 
 unfoldable pub title_line : KeptTwo → List ℕ
 title_line two = codes "\n" ++ two.of.asked.title ++ codes " by " ++ two.by.title ++ codes "\n"
@@ -173,10 +154,11 @@ top_kept two Csv = codes "value,by,deals\n"
 top_kept two Html = line_text two (Page Heads)
 
 unfoldable pub bottom_kept : KeptTwo → LineStyle → List ℕ
-bottom_kept two Table = totals_kept two Table
+bottom_kept two Table = totals_kept two All Mean
 bottom_kept two Csv = []
 bottom_kept two Html =
-    codes "</tbody>\n<tfoot>\n" ++ totals_kept two Html ++ codes "</tfoot>\n</table>\n</div>\n"
+    codes "</tbody>\n<tfoot>\n" ++ totals_kept two (Page Totals) (Page Means)
+    ++ codes "</tfoot>\n</table>\n</div>\n"
 
 unfoldable pub two_text : KeptTwo → LineStyle → List ℕ
 two_text two style =

@@ -3,6 +3,7 @@
 ghost use Rattle.std.specs.Prelude.{◌≡◌, ◌≤◌, ◌<◌, ◌+◌, ◌*◌, ◌^◌, ◌++◌, codes, length};
 ghost use Rattle.boards.specs.declared.buffer.TheConstants.{CAPACITY};
 ghost use Rattle.statistics.specs.Counting.{most_counted};
+ghost use Rattle.statistics.specs.internal.Kept.{most_squared};
 ghost use Rattle.statistics.specs.OneQuestion.{mean_text};
 ghost use Rattle.statistics.specs.Page.{page_bar, page_header, page_row};
 
@@ -67,7 +68,7 @@ pub(crate) fn put_page_mean(text: &mut TextBuffer, deals: u64, total: u64, squar
     requires some { 0 < deals }
     requires deals { deals ≤ 2 ^ 40 }
     requires total { total ≤ deals * most_counted }
-    requires squared { squared ≤ deals * 2 ^ 47 }
+    requires squared { squared ≤ deals * most_squared }
     requires room { length text.old + 250 ≤ CAPACITY }
     ensures text { text.new
         ≡ text.old ++ (codes "<p>" ++ mean_text deals total squared ++ codes "</p>\n") }

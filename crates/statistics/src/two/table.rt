@@ -9,9 +9,9 @@ ghost use Rattle.statistics.specs.internal.Lines.{CanShade, IsLine, all_kept, bo
 ghost use Rattle.statistics.specs.internal.Lines.{cell_in_columns, cell_piece, cell_text};
 ghost use Rattle.statistics.specs.internal.Lines.{cells_kept, column_kept, deals_at};
 ghost use Rattle.statistics.specs.internal.Lines.{end_in_columns, end_piece, first_text, last_text};
-ghost use Rattle.statistics.specs.internal.Lines.{line_text, means_of, row_of, start_in_columns};
+ghost use Rattle.statistics.specs.internal.Lines.{line_text, row_of, start_in_columns};
 ghost use Rattle.statistics.specs.internal.Lines.{start_piece, title_line, top_kept, total_at};
-ghost use Rattle.statistics.specs.internal.Lines.{totals_kept, totals_of, two_row, two_text};
+ghost use Rattle.statistics.specs.internal.Lines.{totals_kept, two_row, two_text};
 ghost use Rattle.statistics.specs.internal.PageLines.{columns_of_two};
 ghost use Rattle.statistics.specs.internal.Texts.{numbers_in, rows_of_one};
 
@@ -53,26 +53,6 @@ impl Line {
             LineStyle::Table => Line::Row(number),
             LineStyle::Csv => Line::CsvRow(number),
             LineStyle::Html => Line::Page(PageLine::Cells(number, most)),
-        }
-    }
-
-    /// The line of all deals.
-    fn of_totals(style: LineStyle) -> Line
-        ensures { result ≡ totals_of style }
-    {
-        match style {
-            LineStyle::Table | LineStyle::Csv => Line::All,
-            LineStyle::Html => Line::Page(PageLine::Totals),
-        }
-    }
-
-    /// The line of the means.
-    fn of_means(style: LineStyle) -> Line
-        ensures { result ≡ means_of style }
-    {
-        match style {
-            LineStyle::Table | LineStyle::Csv => Line::Mean,
-            LineStyle::Html => Line::Page(PageLine::Means),
         }
     }
 }
@@ -132,8 +112,8 @@ impl Two {
         ensures faults { CountsFault (S.faults sink.old) (S.faults sink.new) result }
     {
         match style {
-            LineStyle::Table => self.put_totals(LineStyle::Table, sink),
-            LineStyle::Csv => put_piece(sink, &TextBuffer::new()),
+            LineStyle::Table => self.put_totals(Line::All, Line::Mean, sink),
+            LineStyle::Csv => Ok(()),
             LineStyle::Html => self.put_page_totals(sink),
         }
     }
@@ -149,7 +129,8 @@ impl Two {
         ensures faults { CountsFault (S.faults sink.old) (S.faults sink.new) result }
     {
         put_all(sink, TOTALS_HEAD)?;
-        self.put_totals(LineStyle::Html, sink)?;
+        let (all, mean) = (PageLine::Totals, PageLine::Means);
+        self.put_totals(Line::Page(all), Line::Page(mean), sink)?;
         put_all(sink, TOTALS_TAIL)
     }
 
@@ -157,18 +138,19 @@ impl Two {
     ///
     /// # Errors
     /// `SinkFault` if the sink failed: a proper prefix of it was written.
-    #[tactic(auto, unfolding(crate::specs::internal::Lines::bottom_kept))]
-    fn put_totals<S: Sink>(&self, style: LineStyle, sink: &mut S) -> Result<(), SinkFault>
-        requires { S.faults sink.old < 2 ^ 64 - 1 }
+    fn put_totals<S: Sink>(&self, all: Line, mean: Line, sink: &mut S) -> Result<(), SinkFault>
+        requires all { IsLine self.now all }
+        requires mean { IsLine self.now mean }
+        requires faults { S.faults sink.old < 2 ^ 64 - 1 }
         ensures bytes { AppendsOrBreaksOff (S.bytes sink.old) (S.bytes sink.new) result
-            (totals_kept self.now style) }
+            (totals_kept self.now all mean) }
         ensures faults { CountsFault (S.faults sink.old) (S.faults sink.new) result }
     {
-        self.put_line(Line::of_totals(style), sink)?;
+        self.put_line(all, sink)?;
         if self.of.is_condition() {
             Ok(())
         } else {
-            self.put_line(Line::of_means(style), sink)
+            self.put_line(mean, sink)
         }
     }
 
@@ -424,7 +406,7 @@ impl Two {
     }
 }
 
-/// How wide the cells of a column are with this many deals, and such a sum.
+/// How wide the cells of a column are with this many deals and this sum.
 fn cells_width(is_condition: bool, deals: u64, total: u64) -> usize
     requires deals { deals ≤ 2 ^ 40 }
     requires total { total ≤ deals * most_counted }

@@ -29,6 +29,10 @@ pub(crate) const RULES: &str = "
         with the bracket before the comparison write: %w0(%b3,%b1)%n0%n1
     InCount ( Seat ^ Relation Number ) => \
         with the bracket before the comparison write: %w0(%b1)%n0%n1
+    Can:Close Cannot:And In:cards Seat , Ranks ^ , Suit ) => \
+        the suit comes before the ranks, as in cards(%b3,%n1,%b1)
+    Can:Close Cannot:And In:cards Ranks ^ +|and|-|, Ranks => \
+        write all ranks as one word, as in %b1%n1
     Can:Close Cannot:And ^ ==|!=|<|<=|>|>=|in|+|and|or => a \")\" is missing before this
     Can:Close Cannot:And In:cards Ranks ^ 10 => for the ten write \"t\"
     Can:Close Cannot:And In:cards Ranks ^ Number => \

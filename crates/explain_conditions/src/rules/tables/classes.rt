@@ -4,10 +4,11 @@ pub(crate) const RULES: &str = "
     Can:SuitClass any|every ^ other => \
         other comes in the brackets of another, as in any suit (len(north,suit)>=5 and any other \
         (len(north,other)>=5))
-    any|every ^ suits => write \"%b1 suit\", as in %b1 suit (len(north,suit)>=5)
+    any|every ^ suits|s|color|colour|farbe => \
+        write \"%b1 suit\", as in %b1 suit (len(north,suit)>=5)
     any|every ^ majors => write \"%b1 major\", as in %b1 major (len(north,major)>=5)
     any|every ^ minors => write \"%b1 minor\", as in %b1 minor (len(north,minor)>=5)
-    any|every ^ seats => write \"%b1 seat\", as in %b1 seat (hcp(seat)>=12)
+    any|every ^ seats|player|hand|spieler => write \"%b1 seat\", as in %b1 seat (hcp(seat)>=12)
     any 2 ^ suits => \
         for two suits write: any suit (len(north,suit)>=5 and any other (len(north,other)>=5))
     any ^ two suits => \

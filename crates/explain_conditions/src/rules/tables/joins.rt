@@ -13,6 +13,9 @@ pub(crate) const RULES: &str = "
     Can:Number ^ Seat => begin with what you ask of the seat, as in hcp(%n0)
     Can:Number ^ <> => for \"<>\" write \"!=\"
     Can:Number < ^ > => for \"<>\" write \"!=\"
+    Can:Number == ^ ( Number or Number ) => \
+        to compare it with each write: %v2==%n1 or %v2==%n3
+    Can:Number Relation ^ ( => no brackets come after \"%b1\": leave them out
     Can:Number ^ Relation => a value is missing before this sign, as in hcp(north)>=15
     Can:Number ^ qt ( => \
         quick tricks aren't counted: for an ace 2 and a king 1 write controls, as in \
@@ -20,6 +23,11 @@ pub(crate) const RULES: &str = "
     Can:Number ^ Ranks => for cards of a rank write \"cards(north,%n0)\"
 
     Can:Relation |( Digits:4 ^ |) => for lengths in any order write: pattern(north,%d1)
+    Can:Relation Bracketed ^ ) * Number => \
+        give each value its number, as in %n2*hcp(north)+%n2*hcp(south)
+    Can:Relation Through ^ ) Amount => put the comparison in the brackets, as in (%v1%a1)
+    Can:Relation Through ^ ) => compare it in the brackets, as in (%v1%c1)
+    InQuestion Can:Relation Bracketed ^ ) => leave out the brackets around the sum
     Can:Relation Bracketed ^ ) Amount => without brackets around the sum write: %v1%a1
     Can:Relation Bracketed ^ ) ENDS => without brackets around the sum write: %v1%c1
     Can:Relation Bracketed ^ ) => leave out the brackets around the sum
@@ -35,6 +43,8 @@ pub(crate) const RULES: &str = "
         to compare each write: %v1%n5%n6 or %n1(%n3)%n5%n6
     Can:Relation Number ^ Count ( Seat ) Amount => write \"%b1*%n0(%n2)\"
     Can:Relation Number ^ Count ( Seat ) + => write \"%b1*%n0(%n2)\"
+    Can:Relation STARTS Number ^ ( => \
+        give each value its number, as in %b1*hcp(north)+%b1*hcp(south)
     Can:Relation STARTS Number ^ => say of what, as in hcp(north)>=%b1
     Can:Relation Value ^ => compare it, as in %v1%c1
 

@@ -17,6 +17,7 @@ pub(crate) const RULES: &str = "
     In:pattern Seat , Number ^ + - x - x - x ) => for %b1 or more write: longest(%b3)>=%b1
     In:shape|pattern Seat , ^ any Digits:4 or|+|, any Digits:4 ) => \
         with one pattern in each test write: pattern(%b2,%g1) or pattern(%b2,%g4)
+    In:shape|pattern - ^ Named:any => for any length write \"x\"
     In:shape|pattern Except:( ^ Named:any => \
         for any order write \"pattern\", as in pattern(north,5-3-3-2)
     In:shape Seat , Length - Number ^ + => \

@@ -13,6 +13,7 @@ pub(crate) const RULES: &str = "
     ^ =>|>==|!< => for \"%n0\" write \">=\"
     ^ =<|<==|!> => for \"%n0\" write \"<=\"
     ^ <>|><|=!|!== => for \"%n0\" write \"!=\"
+    ^ ;|. Nothing => leave \"%n0\" out
     ^ &&|&|; => for \"%n0\" write \"and\"
     ^ BARS => for \"%n0\" write \"or\"
     ^ !|~ => for \"%n0\" write \"not\"

@@ -12,6 +12,8 @@ pub(crate) const RULES: &str = "
     Number ^ - Number - Number - Number ( Seat ) => \
         in any order of the suits write: pattern(%n7,%b1-%n1-%n3-%n5)
     STARTS Number ^ - Number ( Seat ) => for these lengths write: pattern(%n3,%b1-%n1-x-x)
+    shape ( Seat , Length - Length - Length - Length ) or Number ^ - Number - Number - Number => \
+        with the seat in brackets write: shape(%u0,%b1-%n1-%n3-%n5)
     STARTS Number ^ - Number - Number - Number ENDS => \
         for a shape in any order write pattern, as in pattern(north,%b1-%n1-%n3-%n5)
     In:len Seat , ^ majors|major ) EQUAL 5|6|7 - 3|4 => \
