@@ -25,6 +25,8 @@ MOST_SECONDS = 0.05
 # How often a text is tried, since a machine with other guests counts their time too.
 TRIES = 20
 TIMES = 10 if report.has("many") else 1
+# The classes of suits and of seats in whose brackets a test may be.
+CLASSES = ("suit", "major", "minor", "seat", "ns", "ew")
 NEVER = "note: no deal meets this condition"
 MIXED = 'note: "and" binds first: A and B or C is (A and B) or C; brackets would say so\n'
 UNNAMED = 'note: "{0}" isn\'t named in the brackets of "{1} {0}", so that it asks the same each time\n'
@@ -125,9 +127,9 @@ def fault_of_suggestion(said):
     if not suggested:
         return None
     condition = suggested.group(1)
-    of_class = re.search(r"\b(suit|major|minor)\b", condition)
-    if of_class and not re.search(r"\b(any|every)\b", condition):
-        condition = f"any {of_class.group()} ({condition})"
+    for name in CLASSES:
+        if re.search(rf"\b{name}\b", condition) and not re.search(rf"\b(any|every) {name}\b", condition):
+            condition = f"any {name} ({condition})"
     return fault_of_note(condition, "none")
 
 
