@@ -1,11 +1,12 @@
 """Goes through the options of all commands, as their help lists them. Where a command lacks one that another has, by
 name or letter, and where one has no value or an empty one, a person is told what helps. Each has a text, and the words
-that it may have by its text are those that it is read by.
+that it may have by its text are those that it is read by. Each lesson that a hint names is one.
 """
 
 import re
 
 import commands
+import harness
 import report
 import words
 
@@ -15,6 +16,11 @@ NEEDED = {"--seed": "7", "--candidates": "4", "--count": "3"}
 HELP = re.compile(r"^  (hint: |--[a-z-]+ \")", re.M)
 # What is said of a word that an option may not have.
 REFUSED = re.compile(r"error: invalid value '([^']*)' for '(--[a-z-]+) <\w+>'\n  \[possible values: ([^]]+)\]")
+# The tables of hints that name lessons, and how they do.
+LESSONS = {
+    "explain/src/words/values.rt": r"^ +lesson .* => ([a-z0-9-]+)$",
+    "explain_conditions/src/rules/tables/lessons.rt": r"(?:--lesson|, or) ([a-z0-9-]+)",
+}
 
 
 def lacking(command, own, others):
@@ -80,7 +86,18 @@ def texts():
             yield f"{command} {option}", text_fault(command, rows, option, text)
 
 
+def lessons():
+    """Each lesson that a hint names, with what is wrong with it."""
+    for table, pattern in LESSONS.items():
+        names = re.findall(pattern, (harness.TOP / "crates" / table).read_text(encoding="utf-8"), re.M)
+        yield f"lessons in {table}", None if names else "it names none"
+        for name in names:
+            told = words.run(f"lessons {name}", b"").stderr.decode()
+            yield f"lesson {name} in {table}", told or None
+
+
 def options():
-    """Each option that a command lacks, or that lacks its value, and the text of each."""
+    """Each option that a command lacks, or that lacks its value, the text of each, and the lessons of hints."""
     yield from report.asked(fault_of, calls())
     yield from texts()
+    yield from lessons()
