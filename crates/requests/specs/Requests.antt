@@ -11,6 +11,8 @@ use Rattle.boards.specs.declared.format.Format.TheVariants.{Numbers, Pbn}
 use Rattle.boards.specs.declared.show.Show.{Show}
 use Rattle.boards.specs.Show.{all_shown}
 use Rattle.requests.specs.declared.look.Look as given
+use Rattle.requests.specs.declared.names.QuestionName.{QuestionName}
+use Rattle.requests.specs.declared.names.QuestionName.TheVariants.{Of, By}
 use Rattle.requests.specs.declared.request.Notices.{Notices}
 use Rattle.requests.specs.declared.request.Request.{Request}
 use Rattle.requests.specs.declared.questions.Questions.{Questions as GivenQuestions}
@@ -110,6 +112,13 @@ pub data Questions : Type 0 where
   two_questions : (rows columns : List ℕ) → Questions
   each_question : List (List ℕ) → Questions
 
+-- the text of the question of this name; several that are all of `of` have no names
+abbrev pub text_named : QuestionName → Questions → Option (List ℕ)
+text_named Of (one_question text) = Some text
+text_named Of (two_questions rows columns) = Some rows
+text_named By (two_questions rows columns) = Some columns
+text_named _ _ = None
+
 pub data Wish : Type 0 where
   -- `make`, with the boards' tricks, of which the input tells, or without; and `find`, with the
   -- look of its format alone
@@ -138,6 +147,11 @@ searched (count s questions style notices) = Some (s, numbers_look)
 searched (pick seed hands l tricks hints) = Some (no_search seed hands, l)
 searched (show l hints) = Some (no_search 0 none_given, l)
 searched _ = None
+
+-- the text of the question of this name that a wish asks
+abbrev pub question_named : QuestionName → Wish → Option (List ℕ)
+question_named name (count s questions style notices) = text_named name questions
+question_named _ _ = None
 
 -- when a person is told what helps
 abbrev pub hints_of : Wish → When
@@ -190,6 +204,11 @@ questions_of questions.None = no_question
 questions_of (questions.One text) = one_question text.now
 questions_of (questions.Two rows columns) = two_questions rows.now columns.now
 questions_of (questions.Each texts) = each_question (texts_of texts)
+
+-- the places for the texts of several questions, in a request that asks them
+abbrev pub places_in : Request → List (Option (List ℕ))
+places_in (Count search (questions.Each texts) style notices) = places_of texts
+places_in _ = []
 
 abbrev pub wish_of : Request → Wish
 wish_of (Make search look tricks notices) =

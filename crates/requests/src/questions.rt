@@ -1,7 +1,7 @@
 //! The texts of the questions of a `count`.
 
 ghost use Rattle.std.specs.Prelude.{◌≡◌, None, map, option_map, slice_get, slice_index_or, take};
-ghost use Rattle.requests.specs.Requests.{places_of, texts_of};
+ghost use Rattle.requests.specs.Requests.{places_of, questions_of, text_named, texts_of};
 
 use crate::names::QuestionName;
 
@@ -81,7 +81,9 @@ pub enum Questions<'a> {
 
 impl<'a> Questions<'a> {
     /// Returns the text of the question of this name. There is none if none or several have it.
-    pub fn text(&self, name: QuestionName) -> Option<&'a str> {
+    pub fn text(&self, name: QuestionName) -> Option<&'a str>
+        ensures { option_map (λ t. t.now) result ≡ text_named name (questions_of self.now) }
+    {
         match (self, name) {
             (Questions::One(text), QuestionName::Of) => Some(*text),
             (Questions::Two { of, .. }, QuestionName::Of) => Some(*of),

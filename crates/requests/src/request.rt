@@ -1,7 +1,8 @@
 //! The requests: one variant for each subcommand.
 
-ghost use Rattle.std.specs.Prelude.{◌≡◌, option_map};
-ghost use Rattle.requests.specs.Requests.{hints_of, look_of, search_of, searched, wish_of};
+ghost use Rattle.std.specs.Prelude.{◌≡◌, None, option_map, slice_index_or};
+ghost use Rattle.requests.specs.Requests.{hints_of, look_of, places_in, question_named};
+ghost use Rattle.requests.specs.Requests.{search_of, searched, wish_of};
 
 use crate::hands::PredealtHands;
 use crate::lessons::Lesson;
@@ -95,7 +96,9 @@ impl<'a> Request<'a> {
     }
 
     /// Returns the text of this question, if the request has one of this name.
-    pub fn question(&self, name: QuestionName) -> Option<&'a str> {
+    pub fn question(&self, name: QuestionName) -> Option<&'a str>
+        ensures { option_map (λ t. t.now) result ≡ question_named name (wish_of self.now) }
+    {
         match self {
             Request::Count { questions, .. } => questions.text(name),
             _ => None,
@@ -103,7 +106,9 @@ impl<'a> Request<'a> {
     }
 
     /// Returns the text in this place of several questions, the first of which is 0.
-    pub fn question_at(&self, place: usize) -> Option<&'a str> {
+    pub fn question_at(&self, place: usize) -> Option<&'a str>
+        ensures { option_map (λ t. t.now) result ≡ slice_index_or (places_in self.now) place None }
+    {
         match self {
             Request::Count {
                 questions: Questions::Each(texts),
