@@ -1,7 +1,7 @@
 -- What words without a fault ask for.
 use Rattle.std.proofs.Common.{◌≡◌, ◌∙◌, Bool, true, false, List, [], ◌∷◌, Option, Some, None, refl, sym, ap, subst}
 use Rattle.std.proofs.Common.{inl, inr, codes, option_map, if◌then◌else◌}
-use Rattle.std.specs.Prelude.{IsSome, Box}
+use Rattle.std.specs.Prelude.{Box, Err, IsSome}
 use Rattle.std.specs.Borrow.{Bor}
 use Rattle.std.specs.Box.{box_value}
 use Rattle.std.specs.Option.{option_and_then, option_map_or}
@@ -19,20 +19,20 @@ use Rattle.clap.specs.declared.parser.matches.ArgMatches.{ArgMatches}
 use Rattle.clap.specs.declared.parser.matches.ArgMatches.TheViews.{out-ArgMatches, out-SubCommand}
 use Rattle.clap.specs.declared.parser.matches.SubCommand.{SubCommand}
 use Rattle.command_line.specs.Commands.{deals}
-use Rattle.command_line.specs.CommandLine.{asked, asks_page, called, called_in, extra_kinds, further_kinds}
+use Rattle.command_line.specs.CommandLine.{asked, asks_page, called, called_in, further_kinds}
 use Rattle.command_line.specs.options.Search.{has_bad_workers, is_no_lesson}
 use Rattle.command_line.specs.options.Questions.{has_extra}
 use Rattle.command_line.specs.CommandLine.{has_unknown, kinds_by, kinds_for}
-use Rattle.command_line.specs.CommandLine.{lacks_option, lessons_kinds, made_by, dealing_kinds}
-use Rattle.command_line.specs.options.Others.{lessons_wish}
-use Rattle.command_line.specs.CommandLine.{missing_kinds, read_kinds, show_kinds, show_wish}
+use Rattle.command_line.specs.CommandLine.{lacks_option}
+use Rattle.command_line.specs.CommandLine.{read_kinds}
 use Rattle.command_line.specs.options.Search.{search_in}
 use Rattle.command_line.specs.CommandLine.{subcommand_named, unless_fault, wish_by, wish_in}
 use Rattle.requests.specs.Requests.{Wish, conditions}
 use Rattle.command_line.specs.declared.subcommands.Dealing.{Dealing}
 use Rattle.command_line.specs.declared.subcommands.Subcommand.{Subcommand}
-use Rattle.command_line.specs.declared.subcommands.Subcommand.TheVariants.{Deals, Lessons, Show}
-use Rattle.command_line.specs.internal.Asking.{Asks, AsksLessons, AsksDealing, AsksShow, HasValues, IsRefused}
+use Rattle.command_line.specs.declared.subcommands.Subcommand.TheVariants.{Deals}
+use Rattle.command_line.specs.internal.Asking.{Asks, HasValues}
+use Rattle.command_line.specs.Reading.{AreRead}
 use Rattle.command_line.proofs.OptionValues.{Reads, each_reads, read_by}
 use Rattle.command_line.proofs.Entered.{enters}
 
@@ -142,95 +142,8 @@ by_kinds words c rows read is =
     ∙ ap (λ (k : Kinds). or_else k (further_kinds words)) f
     ∙ ap (λ (o : Option (Subcommand × List Row)). option_map_or (λ p. kinds_by p.0 p.1) o []) is
 
-asks_make : (words : List Text) (d : Dealing) (rows : List Row) → IsRead words → Calls words (Deals d) rows → AsksDealing words d rows
-asks_make words d rows f is = record {
-  ends = λ u n w e x. wishes ∙ ap (λ (k : Kinds). unless_fault k wish) (known u ∙ taught n ∙ counted w ∙ ending e ∙ extra x);
-  extra = λ u n w e x. record {
-    asked_is = wishes ∙ ap (λ (k : Kinds). unless_fault k wish) (known u ∙ taught n ∙ counted w ∙ ending e ∙ extra x);
-    kinds_are = by_kinds words (Deals d) rows f is ∙ known u ∙ taught n ∙ counted w ∙ ending e ∙ extra x;
-  };
-  missing = λ u n w e. record {
-    asked_is = wishes ∙ ap (λ (k : Kinds). unless_fault k wish) (known u ∙ taught n ∙ counted w ∙ ending e);
-    kinds_are = by_kinds words (Deals d) rows f is ∙ known u ∙ taught n ∙ counted w ∙ ending e;
-  };
-  bad_workers = λ u n w. record {
-    asked_is = wishes ∙ ap (λ (k : Kinds). unless_fault k wish) (known u ∙ taught n ∙ counted w);
-    kinds_are = by_kinds words (Deals d) rows f is ∙ known u ∙ taught n ∙ counted w;
-  };
-  no_lesson = λ u n. record {
-    asked_is = wishes ∙ ap (λ (k : Kinds). unless_fault k wish) (known u ∙ taught n);
-    kinds_are = by_kinds words (Deals d) rows f is ∙ known u ∙ taught n;
-  };
-  unknown = λ u. record {
-    asked_is = wishes ∙ ap (λ (k : Kinds). unless_fault k wish) (known u);
-    kinds_are = by_kinds words (Deals d) rows f is ∙ known u;
-  };
-}
-  where
-    wish : Option Wish
-    wish = Some (made_by d (search_in rows) rows)
-
-    wishes : asked words ≡ unless_fault (dealing_kinds d rows) wish
-    wishes = by_wish words (Deals d) rows f is
-
-    -- the kinds where each word is one of its option's values, and the lesson is one
-    further : Kinds
-    further = if has_bad_workers rows then ValueValidation ∷ [] else missing_kinds d (search_in rows) rows
-
-    with_lesson : Kinds
-    with_lesson = if is_no_lesson (codes "lesson") rows then InvalidValue ∷ [] else further
-
-    known : {b : Bool} → has_unknown (Deals d) rows ≡ b → dealing_kinds d rows ≡ (if b then InvalidValue ∷ [] else with_lesson)
-    known {b} u = ap (λ (x : Bool). if x then InvalidValue ∷ [] else with_lesson) u
-
-    taught : {b : Bool} → is_no_lesson (codes "lesson") rows ≡ b → with_lesson ≡ (if b then InvalidValue ∷ [] else further)
-    taught {b} n = ap (λ (x : Bool). if x then InvalidValue ∷ [] else further) n
-
-    counted : {b : Bool} → has_bad_workers rows ≡ b → further ≡ (if b then ValueValidation ∷ [] else missing_kinds d (search_in rows) rows)
-    counted {b} w = ap (λ (x : Bool). if x then ValueValidation ∷ [] else missing_kinds d (search_in rows) rows) w
-
-    ending : {b : Bool} → lacks_option d (search_in rows) rows ≡ b
-        → missing_kinds d (search_in rows) rows ≡ (if b then MissingRequiredArgument ∷ [] else extra_kinds rows)
-    ending {b} e = ap (λ (x : Bool). if x then MissingRequiredArgument ∷ [] else extra_kinds rows) e
-
-    extra : {b : Bool} → has_extra rows ≡ b → extra_kinds rows ≡ (if b then ArgumentConflict ∷ [] else [])
-    extra {b} x = ap (λ (y : Bool). if y then ArgumentConflict ∷ [] else []) x
-
-asks_lessons : (words : List Text) (rows : List Row) → IsRead words → Calls words Lessons rows → AsksLessons words rows
-asks_lessons words rows f is = record {
-  found = λ n. by_wish words Lessons rows f is ∙ ap (λ (k : Kinds). unless_fault k wish) (kinds n);
-  unknown = λ n. record {
-    asked_is = by_wish words Lessons rows f is ∙ ap (λ (k : Kinds). unless_fault k wish) (kinds n);
-    kinds_are = by_kinds words Lessons rows f is ∙ kinds n;
-  };
-}
-  where
-    wish : Option Wish
-    wish = Some (lessons_wish rows)
-
-    kinds : {b : Bool} → is_no_lesson (codes "name") rows ≡ b → lessons_kinds rows ≡ (if b then InvalidValue ∷ [] else [])
-    kinds {b} n = ap (λ (x : Bool). if x then InvalidValue ∷ [] else []) n
-
-asks_show : (words : List Text) (rows : List Row) → IsRead words → Calls words Show rows → AsksShow words rows
-asks_show words rows f is = record {
-  known = λ u. by_wish words Show rows f is ∙ ap (λ (k : Kinds). unless_fault k wish) (kinds u);
-  unknown = λ u. record {
-    asked_is = by_wish words Show rows f is ∙ ap (λ (k : Kinds). unless_fault k wish) (kinds u);
-    kinds_are = by_kinds words Show rows f is ∙ kinds u;
-  };
-}
-  where
-    wish : Option Wish
-    wish = Some (show_wish rows)
-
-    kinds : {b : Bool} → has_unknown Show rows ≡ b → show_kinds rows ≡ (if b then InvalidValue ∷ [] else [])
-    kinds {b} u = ap (λ (x : Bool). if x then InvalidValue ∷ [] else []) u
-
 asks_by : (words : List Text) (c : Subcommand) (rows : List Row) → IsRead words → Calls words c rows → Asks words c rows
-asks_by words (Deals d) rows f is = asks_make words d rows f is
-asks_by words Show rows f is = asks_show words rows f is
-asks_by words Lessons rows f is = asks_lessons words rows f is
-asks_by words c rows f is = by_wish words c rows f is
+asks_by words c rows read is = record { asked_is = by_wish words c rows read is; kinds_are = by_kinds words c rows read is }
 
 -- the subcommand of this name, what its options were given, and what the words ask for
 pub record Chosen (words : List Text) (name : Text) (rows : List Row) : Type 0 where
@@ -294,13 +207,44 @@ error_kind app words e is h page =
     (subst (λ (a : App). (is_simple_and_free a ≡ true → HasKind (fault_of a words) e)
     → HasKind (fault_of deals words) e) (sym is) (λ k. k is_simple) h))
 
--- ---- words that clap takes and that are refused
+-- ---- words that clap takes
 
-pub refused_kind : (words : List Text) (kind : ErrorKind) (e : Error) → IsRefused words kind → HasKind (kind ∷ []) e → HasKind (kinds_for words) e
-refused_kind words kind e r is = rw r.kinds_are is
+-- the kinds of fault in words that deal candidates, by what is looked at in turn
+abbrev kinds_if : (unknown no_lesson bad_workers lacks extra : Bool) → Kinds
+kinds_if unknown no_lesson bad_workers lacks extra =
+    if unknown then InvalidValue ∷ []
+    else (if no_lesson then InvalidValue ∷ []
+    else (if bad_workers then ValueValidation ∷ []
+    else (if lacks then MissingRequiredArgument ∷ []
+    else (if extra then ArgumentConflict ∷ [] else []))))
 
-pub refused_asked : {X : Type 0} (words : List Text) (kind : ErrorKind) → IsRefused words kind → IsSome (asked words) → X
-refused_asked words kind r some = let bad : false ≡ true = subst (λ (o : Option Wish). IsSome o) r.asked_is some in absurd cc
+pub dealing_kinds_are : {u n w l x : Bool} (d : Dealing) (rows : List Row) → has_unknown (Deals d) rows ≡ u
+    → is_no_lesson (codes "lesson") rows ≡ n → has_bad_workers rows ≡ w
+    → lacks_option d (search_in rows) rows ≡ l → has_extra rows ≡ x
+    → kinds_by (Deals d) rows ≡ kinds_if u n w l x
+dealing_kinds_are {u} {n} {w} {l} {x} d rows unknown no_lesson bad_workers lacks extra =
+    ap (λ (b : Bool). kinds_if b (is_no_lesson (codes "lesson") rows) (has_bad_workers rows) missing (has_extra rows)) unknown
+    ∙ ap (λ (b : Bool). kinds_if u b (has_bad_workers rows) missing (has_extra rows)) no_lesson
+    ∙ ap (λ (b : Bool). kinds_if u n b missing (has_extra rows)) bad_workers
+    ∙ ap (λ (b : Bool). kinds_if u n w b (has_extra rows)) lacks
+    ∙ ap (λ (b : Bool). kinds_if u n w l b) extra
+  where
+    missing : Bool
+    missing = lacks_option d (search_in rows) rows
+
+pub are_read : (words : List Text) (c : Subcommand) (rows : List Row) → Asks words c rows → kinds_by c rows ≡ []
+    → asked words ≡ Some (wish_by c rows)
+are_read words c rows asks none = asks.asked_is ∙ ap (λ (k : Kinds). unless_fault k (Some (wish_by c rows))) none
+
+pub are_refused : (words : List Text) (c : Subcommand) (rows : List Row) (kind : ErrorKind) (e : Error) → Asks words c rows
+    → kinds_by c rows ≡ kind ∷ [] → HasKind (kind ∷ []) e → AreRead words (Err e)
+are_refused words c rows kind e asks one has = (not_asked, subst (λ (k : Kinds). HasKind k e) (sym (asks.kinds_are ∙ one)) has)
+  where
+    nothing : asked words ≡ None
+    nothing = asks.asked_is ∙ ap (λ (k : Kinds). unless_fault k (Some (wish_by c rows))) one
+
+    not_asked : IsSome (asked words) → kind_of e ≡ OutOfMemory
+    not_asked some = let bad : false ≡ true = subst (λ (o : Option Wish). IsSome o) nothing some in absurd cc
 
 -- ---- the subcommand that was found by its name
 

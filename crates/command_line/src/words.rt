@@ -9,8 +9,7 @@ ghost use Rattle.clap.specs.declared.error.kind.ErrorKind.{ErrorKind};
 ghost use Rattle.command_line.specs.CommandLine.{asks_page, has_no_end, has_unknown};
 ghost use Rattle.command_line.specs.CommandLine.{has_unknown_format, lacks_option, made_by};
 ghost use Rattle.command_line.specs.Reading.{AreRead};
-ghost use Rattle.command_line.specs.internal.Asking.{Asks, AsksLessons, AsksDealing, AsksShow};
-ghost use Rattle.command_line.specs.internal.Asking.{HasValues};
+ghost use Rattle.command_line.specs.internal.Asking.{Asks, HasValues};
 ghost use Rattle.command_line.specs.internal.Readings.{DealingValues, MayGive64};
 ghost use Rattle.requests.specs.Requests.{search_of, wish_of};
 
@@ -150,7 +149,7 @@ fn or_out_of_memory(refusal: Result<Error, AllocError>) -> Error
 
 /// What the words ask for that name `lessons` and give its value so.
 fn lessons_request<'a>(alloc: Global, matches: &ArgMatches<'a>) -> Result<Request<'a>, Error>
-    ensures { (words : List Text) → AsksLessons words (rows_of (found_of matches.now))
+    ensures { (words : List Text) → Asks words Subcommand.Lessons (rows_of (found_of matches.now))
         → AreRead words result }
 {
     if let Some(word) = no_lesson_in(matches, "name") {
@@ -161,7 +160,7 @@ fn lessons_request<'a>(alloc: Global, matches: &ArgMatches<'a>) -> Result<Reques
 
 /// What the words ask for that name `show` and give its options these values.
 fn show_request<'a>(alloc: Global, matches: &ArgMatches<'a>) -> Result<Request<'a>, Error>
-    ensures { (words : List Text) → AsksShow words (rows_of (found_of matches.now))
+    ensures { (words : List Text) → Asks words Subcommand.Show (rows_of (found_of matches.now))
         → AreRead words result }
 {
     if let Some(unknown) = unknown_in(Subcommand::Show, matches) {
@@ -181,7 +180,8 @@ fn dealing_request<'a>(
     matches: &ArgMatches<'a>,
 ) -> Result<Request<'a>, Error>
     requires { DealingValues (rows_of (found_of matches.now)) }
-    ensures { (words : List Text) → AsksDealing words dealing (rows_of (found_of matches.now))
+    ensures { (words : List Text)
+        → Asks words (Subcommand.Deals dealing) (rows_of (found_of matches.now))
         → AreRead words result }
 {
     let subcommand = Subcommand::Deals(dealing);
