@@ -5,4 +5,5 @@ pub mod options
 pub mod Commands
 pub mod CommandLine
 pub mod Reading
+pub mod Shown
 pub mod internal

@@ -20,5 +20,5 @@ mod texts;
 mod words;
 
 pub use known::{KnownOption, Taken, known_option, takes_option};
-pub use shown::shown_text;
+pub use shown::{put_cut, shown_text};
 pub use words::read_words;

@@ -1,19 +1,28 @@
 //! clap's texts as they are shown on a terminal, whatever the words are.
 
+ghost use Rattle.std.specs.Prelude.{◌≡◌, ◌++◌, OnOk, string_bytes};
+ghost use Rattle.command_line.specs.Shown.{cut_text};
+
 use sinks::put_shown;
 use std::alloc::{AllocError, Global};
 
-/// The longest word that is shown whole, and how much of a longer one is shown.
+/// The longest text that is shown whole, and how much of a longer one is shown.
 const WHOLE: usize = 72;
 
 const PART: usize = 70;
 
-/// Appends a word as it is shown, cut if it is long.
-fn put_word(out: &mut String, word: &[u8]) -> Result<(), AllocError> {
-    if word.len() <= WHOLE {
-        return put_shown(out, word);
+/// Appends a text as it is shown on a terminal: of more than 72 bytes the first 70, and two dots.
+///
+/// # Errors
+/// `AllocError` if an allocation failed.
+pub fn put_cut(out: &mut String, text: &[u8]) -> Result<(), AllocError>
+    ensures { OnOk result (string_bytes out.new ≡ string_bytes out.old ++ cut_text text.now) }
+{
+    if text.len() <= WHOLE {
+        return put_shown(out, text);
     }
-    put_shown(out, word.get(..PART).unwrap_or(word))?;
+    let part = &text[..PART];
+    put_shown(out, part)?;
     out.push_str("..")
 }
 
@@ -34,17 +43,22 @@ fn stands(part: &[u8], text: &[u8], is_quoted: bool) -> bool {
     part.len() > WHOLE || (is_quoted && rest.first() == Some(&b'\'') && part.contains(&b'\n'))
 }
 
-/// The part of one of the words that is here and isn't shown as it is.
-fn part_at<'a>(words: &'a [String], text: &[u8], is_quoted: bool) -> Option<&'a [u8]> {
-    for word in words {
-        for part in parts(word.as_str()) {
-            let part = part.as_bytes();
-            if stands(part, text, is_quoted) {
-                return Some(part);
-            }
+/// The part of the word that is here and isn't shown as it is.
+fn part_of<'a>(word: &'a str, text: &[u8], is_quoted: bool) -> Option<&'a [u8]> {
+    for part in parts(word) {
+        let part = part.as_bytes();
+        if stands(part, text, is_quoted) {
+            return Some(part);
         }
     }
     None
+}
+
+/// The part of one of the words that is here and isn't shown as it is.
+fn part_at<'a>(words: &'a [String], text: &[u8], is_quoted: bool) -> Option<&'a [u8]> {
+    words
+        .iter()
+        .find_map(|word| part_of(word.as_str(), text, is_quoted))
 }
 
 /// Returns clap's text of these words as it is shown on a terminal: a word of more than 72 bytes is
@@ -66,7 +80,7 @@ pub fn shown_text(alloc: Global, words: &[String], text: &str) -> Result<String,
         }
         let rest = bytes.get(at..).unwrap_or(&[]);
         if let Some(part) = part_at(words, rest, is_quoted) {
-            put_word(&mut out, part)?;
+            put_cut(&mut out, part)?;
             left = part.len().saturating_sub(1);
         } else if *byte == b'\n' {
             out.push('\n')?;
