@@ -53,8 +53,7 @@ fn pick_with_tricks<I: Source, O: Sink>(
     ensures faults { FaultsPicked result (O.faults out.old) (O.faults out.new) }
     ensures input { CountsPicked result (I.faults input.old) (I.faults input.new) }
 {
-    let none = Vec::new(alloc);
-    let mut printer = AnyPrinter::with_tricks(alloc, job.format, job.show, &job.heading, 1, none)?;
+    let mut printer = AnyPrinter::with_tricks(alloc, job.format, job.show, &job.heading)?;
     let picked = input::tricks::pick(&job.plan, &mut printer, input, out);
     drop(printer);
     Ok(picked)

@@ -98,8 +98,7 @@ pub(crate) fn write_with_tricks<R: Threads + Wait + Clone + Send + 'static, I: S
         Ok(found) => found,
         Err(cause) => return Err(Failure::Interrupted(cause)),
     };
-    let none = Vec::new(alloc);
-    let mut printer = AnyPrinter::with_tricks(alloc, format, show, &heading, 1, none)?;
+    let mut printer = AnyPrinter::with_tricks(alloc, format, show, &heading)?;
     let told = tell(&plan, found.numbers.as_slice(), &mut printer, input, out);
     drop(printer);
     match told {

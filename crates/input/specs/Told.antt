@@ -1,6 +1,6 @@
 -- What a text of lines tells of boards in order, a line for each; and the text that is written.
 use Rattle.std.specs.Prelude.{◌≡◌, ℕ, ◌+◌, List, [], ◌∷◌, ◌++◌, Option, None, Some, Result, Ok, Err}
-use Rattle.std.specs.Prelude.{OnOk, ⊤}
+use Rattle.std.specs.Prelude.{OnOk, true, ⊤}
 use Rattle.std.specs.Io.KnownBytes.{Consumes, IsAtEnd}
 use Rattle.std.specs.List.{flat_map}
 use Rattle.boards.specs.declared.board.Board.{Board}
@@ -78,10 +78,9 @@ pub record Written : Type 0 where
 abbrev pub written_by : PrintingAs → Written
 written_by p = record { format = p.format; show = p.show; heading = p.heading }
 
--- the printer writes boards with tricks, and has printed none from a table
+-- the printer writes boards with tricks
 abbrev pub IsReady : PrintingAs → Type 0
-IsReady p =
-    (first : ℕ) × (p.tricks ≡ Some (record { first = first; lines = [] })) × (p.boards ≡ 0)
+IsReady p = p.tricks ≡ true
 
 -- a board: tricks are written only beside all hands
 abbrev pub solved_text : Written → Solved → List ℕ

@@ -1,5 +1,5 @@
 -- A layout with chosen hands has the parts of its format.
-use Rattle.std.proofs.Common.{◌≡◌, refl, sym}
+use Rattle.std.proofs.Common.{◌≡◌, Bool, true, false, refl, sym}
 use Rattle.boards.specs.declared.board.Board.{Board}
 use Rattle.boards.specs.Headings.{HeadingView}
 use Rattle.boards.specs.Layouts.{EndsAlike, ends_with}
@@ -8,7 +8,7 @@ use Rattle.boards.specs.declared.format.Format.TheVariants.{Pbn}
 use Rattle.boards.specs.declared.show.Show.{Show}
 use Rattle.boards.specs.declared.show.Seats.{Seats}
 use Rattle.boards.specs.declared.show.Seats.TheVariants.{All}
-use Rattle.notations.specs.Formats.{board_text, footer_of, header_of, layout_by, layout_showing}
+use Rattle.notations.specs.Formats.{board_text, footer_of, header_of, layout_by, layout_in, layout_showing}
 use Rattle.notations.proofs.GameLemmas.{plain_game}
 use Rattle.boards.specs.TricksLines.{nothing_known}
 
@@ -42,3 +42,8 @@ showing_footer format show heading = footer_by format show.seats show heading
 pub showing_ends_alike : (format : Format) (show : Show) (heading : HeadingView)
     → EndsAlike (layout_showing format show heading)
 showing_ends_alike format show heading boards m n = rw (showing_footer format show heading) refl
+
+pub board_in : (format : Format) (show : Show) (heading : HeadingView) (tricks : Bool) (board : Board)
+    → (layout_in format show heading tricks).board board ≡ board_text format show heading nothing_known board
+board_in format show heading false board = showing_board format show heading board
+board_in format show heading true board = refl

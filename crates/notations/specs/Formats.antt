@@ -1,6 +1,5 @@
 -- What each format makes of boards.
-use Rattle.std.specs.Prelude.{◌≡◌, ℕ, ◌+◌, ◌-◌, min, nat_lt, List, [], Option, None, Some, Bool, true, false}
-use Rattle.std.specs.Prelude.{length, if◌then◌else◌, slice_get, ⊤, refl}
+use Rattle.std.specs.Prelude.{ℕ, List, [], Bool, true, false, refl}
 use Rattle.boards.specs.declared.board.Board.{Board}
 use Rattle.boards.specs.Html.{html_end}
 use Rattle.boards.specs.Layouts.{EndsAlike, Layout, SolvedLayout, ends_with}
@@ -76,11 +75,6 @@ layout_showing format show heading = layout_by format show.seats show heading
 abbrev pub layout_of : Format → HeadingView → Layout
 layout_of format heading = layout_showing format all_shown heading
 
--- with a table of tricks, of which line i is for the board of number first + i
-abbrev pub line_for : ℕ → List TricksView → ℕ → Option TricksView
-line_for first table number =
-    if nat_lt number first then None else slice_get table (number - first)
-
 -- tricks are written only beside all hands
 abbrev pub beside_seats : Seats → TricksView → TricksView
 beside_seats All tricks = tricks
@@ -88,21 +82,6 @@ beside_seats _ tricks = nothing_known
 
 abbrev pub beside_hands : Show → TricksView → TricksView
 beside_hands show tricks = beside_seats show.seats tricks
-
--- a board without a line isn't written
-abbrev pub board_with : Format → Show → HeadingView → Option TricksView → Board → List ℕ
-board_with format show heading None board = []
-board_with format show heading (Some tricks) board =
-    board_text format show heading (beside_hands show tricks) board
-
--- with these hands, and with tricks. There is no footer after more boards than there are lines
-abbrev pub layout_with : Format → Show → HeadingView → ℕ → List TricksView → Layout
-layout_with format show heading first table = record {
-  header = header_with_tricks format heading;
-  board = λ board. board_with format show heading (line_for first table board.number) board;
-  footer = λ boards tried.
-      if nat_lt (length table) (length boards) then [] else footer_of format;
-}
 
 -- with these hands, and with what is known of the tricks of each board; the header is one before
 -- boards with tricks where these are expected
@@ -124,21 +103,14 @@ ends_alike _ heading boards m n = refl
 
 -- ---- a printer
 
--- a table of tricks, and the number of the board that has its first line
-pub record TableView : Type 0 where
-  pub first : ℕ
-  pub lines : List TricksView
-
--- what contracts see of a printer: its format, the hands that it shows, its heading, the tricks,
--- the text that it printed last, and how many boards it printed where there are tricks, counted up
--- to one more than they have lines
+-- what contracts see of a printer: its format, the hands that it shows, its heading, whether it is
+-- one of boards with tricks, and the text that it printed last
 pub record PrintingAs : Type 0 where
   pub format : Format
   pub show : Show
   pub heading : HeadingView
-  pub tricks : Option TableView
+  pub tricks : Bool
   pub text : List ℕ
-  pub boards : ℕ
 
 -- the same of one for boards of which some have tricks, and whether these are expected
 pub record SolvingAs : Type 0 where
@@ -148,13 +120,12 @@ pub record SolvingAs : Type 0 where
   pub expects : Bool
   pub text : List ℕ
 
--- how a printer lays a text out
-abbrev pub layout_in : Format → Show → HeadingView → Option TableView → Layout
-layout_in format show heading None = layout_showing format show heading
-layout_in format show heading (Some table) =
-    layout_with format show heading table.first table.lines
-
--- it printed these boards
-abbrev pub HasPrinted : Option TableView → ℕ → List Board → Type 0
-HasPrinted None count boards = ⊤
-HasPrinted (Some table) count boards = count ≡ min (length boards) (length table.lines + 1)
+-- how a printer lays a text out; one of boards with tricks has the header before these, also where
+-- nothing is known of a board's
+abbrev pub layout_in : Format → Show → HeadingView → (tricks : Bool) → Layout
+layout_in format show heading false = layout_showing format show heading
+layout_in format show heading true = record {
+  header = header_with_tricks format heading;
+  board = board_text format show heading nothing_known;
+  footer = ends_with (footer_of format);
+}

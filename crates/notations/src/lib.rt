@@ -24,7 +24,6 @@ mod sheet;
 mod shown;
 mod slips;
 mod solved;
-mod table;
 
 pub use boards::{Format, Show};
 pub use printer::AnyPrinter;

@@ -1,17 +1,15 @@
 //! The printer of any format that boards are written in.
 
-ghost use Rattle.std.specs.Prelude.{◌≡◌, ◌≢◌, [], IfOk, None, Some};
-ghost use Rattle.notations.specs.Formats.{HasPrinted, beside_hands, board_text, footer_of, header_of, header_with_tricks, layout_in};
-ghost use Rattle.notations.specs.Formats.{layout_of, layout_showing, layout_with};
+ghost use Rattle.std.specs.Prelude.{◌≡◌, [], IfOk, false, true, ⊤};
+ghost use Rattle.notations.specs.Formats.{beside_hands, board_text, footer_of, header_of, header_with_tricks, layout_in};
+ghost use Rattle.notations.specs.Formats.{layout_of, layout_showing};
 ghost use Rattle.boards.specs.Show.{all_shown};
 ghost use Rattle.boards.specs.TricksLines.{nothing_known};
 ghost use Rattle.boards.specs.Captions.{captions_in};
-ghost use Rattle.notations.specs.internal.Pens.{footer_after, format_of};
 
 use crate::page::PageLook;
 use crate::pen::Pen;
 use crate::shown::{beside, is_all};
-use crate::table::Table;
 use crate::{hands, page};
 use boards::{Board, Captions, Format, Notation, Show, TextBuffer, Tricks};
 use pbn_text::HEADER;
@@ -20,7 +18,8 @@ use std::alloc::{AllocError, Global};
 use std::marker::Model;
 
 /// Prints boards in a format, with the hands that are shown, and under a heading, one at a time,
-/// and with tricks if it has them. Contracts see these, and the text that was printed last.
+/// and with tricks if it was made for these. Contracts see these, and the text that was printed
+/// last.
 ///
 /// It takes 128 KiB of memory once, when it is created, and none to print. Numbers of candidates
 /// need none at all.
@@ -29,10 +28,8 @@ pub struct AnyPrinter {
     heading: Captions,
     header: TextBuffer,
     pen: Pen,
-    tricks: Option<Table>,
+    tricks: bool,
     text: TextBuffer,
-    /// How many boards were printed with tricks, counted up to one more than these are for.
-    boards: usize,
 }
 
 impl Model for AnyPrinter {
@@ -48,7 +45,6 @@ impl Model for AnyPrinter {
       heading = p.heading;
       tricks = p.tricks;
       text = text_of p.pen p.text;
-      boards = p.boards;
     } };
 
     ghost invariant = { λ p. IsUnder p.heading p.pen
@@ -66,7 +62,6 @@ impl Drop for AnyPrinter {
             pen: _,
             tricks: _,
             text: _,
-            boards: _,
         } = self;
     }
 }
@@ -81,7 +76,7 @@ impl AnyPrinter {
         ensures format { IfOk result (λ p. p.format ≡ format) }
         ensures show { IfOk result (λ p. p.show ≡ all_shown) }
         ensures heading { IfOk result (λ p. p.heading ≡ captions_in format captions.now) }
-        ensures tricks { IfOk result (λ p. p.tricks ≡ None) }
+        ensures tricks { IfOk result (λ p. p.tricks ≡ false) }
         ensures layout { IfOk result (λ p. ⟦<AnyPrinter as Notation>⟧.layout p
             ≡ layout_of format (captions_in format captions.now)) }
         ensures text { IfOk result (λ p. p.text ≡ []) }
@@ -104,7 +99,7 @@ impl AnyPrinter {
         ensures format { IfOk result (λ p. p.format ≡ format) }
         ensures show { IfOk result (λ p. p.show ≡ show) }
         ensures heading { IfOk result (λ p. p.heading ≡ captions_in format captions.now) }
-        ensures tricks { IfOk result (λ p. p.tricks ≡ None) }
+        ensures tricks { IfOk result (λ p. p.tricks ≡ false) }
         ensures layout { IfOk result (λ p. ⟦<AnyPrinter as Notation>⟧.layout p
             ≡ layout_showing format show (captions_in format captions.now)) }
         ensures text { IfOk result (λ p. p.text ≡ []) }
@@ -119,16 +114,14 @@ impl AnyPrinter {
             heading,
             header,
             pen,
-            tricks: None,
+            tricks: false,
             text: TextBuffer::new(),
-            boards: 0,
         })
     }
 
-    /// Returns a printer in the format and under those captions that the format can write, which
-    /// shows these hands and has printed nothing. It writes board `first + i` with `table[i]`, but
-    /// tricks only if all hands are shown. A board without an entry is left out, and so is the
-    /// footer after more boards than there are entries.
+    /// Returns a printer of boards with tricks, in the format and under those captions that the
+    /// format can write, which shows these hands and has printed nothing. Its header is one before
+    /// such boards, and `print_with` prints them.
     ///
     /// # Errors
     /// `AllocError` if the allocation of its memory failed.
@@ -137,16 +130,13 @@ impl AnyPrinter {
         format: Format,
         show: Show,
         captions: &Captions,
-        first: u64,
-        table: Vec<Tricks>,
     ) -> Result<AnyPrinter, AllocError>
         ensures format { IfOk result (λ p. p.format ≡ format) }
         ensures show { IfOk result (λ p. p.show ≡ show) }
         ensures heading { IfOk result (λ p. p.heading ≡ captions_in format captions.now) }
-        ensures tricks { IfOk result (λ p. p.tricks
-            ≡ Some (record { first = first; lines = table.items })) }
+        ensures tricks { IfOk result (λ p. p.tricks ≡ true) }
         ensures layout { IfOk result (λ p. ⟦<AnyPrinter as Notation>⟧.layout p
-            ≡ layout_with format show (captions_in format captions.now) first table.items) }
+            ≡ layout_in format show (captions_in format captions.now) true) }
         ensures text { IfOk result (λ p. p.text ≡ []) }
         ensures printed { IfOk result (λ p. ⟦<AnyPrinter as Notation>⟧.has_printed p []) }
     {
@@ -159,19 +149,15 @@ impl AnyPrinter {
             heading,
             header,
             pen,
-            tricks: Some(Table {
-                first,
-                lines: table,
-            }),
+            tricks: true,
             text: TextBuffer::new(),
-            boards: 0,
         })
     }
 
     /// Prints the board with these tricks in place of the last one, where boards are written with
-    /// tricks. They are written only beside all hands. The board isn't counted.
+    /// tricks. They are written only beside all hands.
     pub fn print_with(&mut self, tricks: &Tricks, board: &Board)
-        requires { self.old.tricks ≢ None }
+        requires { self.old.tricks ≡ true }
         ensures { self.new ≡ record self.old {
           text = board_text self.old.format self.old.show self.old.heading
               (beside_hands self.old.show tricks.now) board.now;
@@ -183,9 +169,8 @@ impl AnyPrinter {
             .put(&mut self.text, &self.heading, self.show, beside, board);
     }
 
-    /// Prints the board in place of the last one, where boards are written without tricks.
+    /// Prints the board without tricks in place of the last one.
     pub(crate) fn print_plain(&mut self, board: &Board)
-        requires { self.old.tricks ≡ None }
         ensures { self.new ≡ record self.old {
           text = board_text self.old.format self.old.show self.old.heading nothing_known board.now;
         } }
@@ -208,26 +193,14 @@ impl Notation for AnyPrinter {
 
     ghost printed = { λ p. p.text };
 
-    ghost has_printed = { λ p boards. HasPrinted p.tricks p.boards boards };
+    ghost has_printed = { λ p boards. ⊤ };
 
     fn header(&self) -> &[u8] {
         self.header.as_bytes()
     }
 
     fn print(&mut self, board: &Board) {
-        self.text.clear();
-        let Some(table) = &self.tricks else {
-            self.pen
-                .put(&mut self.text, &self.heading, self.show, None, board);
-            return;
-        };
-        self.boards = table.counted(self.boards);
-        let Some(tricks) = table.line(board.number) else {
-            return;
-        };
-        let beside = beside(self.show, tricks);
-        self.pen
-            .put(&mut self.text, &self.heading, self.show, beside, board);
+        self.print_plain(board);
     }
 
     fn text(&self) -> &[u8] {
@@ -235,17 +208,7 @@ impl Notation for AnyPrinter {
     }
 
     fn put_footer<S: Sink>(&self, _tried: u64, sink: &mut S) -> Result<(), SinkFault> {
-        put_all(sink, footer(&self.pen, &self.tricks, self.boards))
-    }
-}
-
-/// Returns what comes after this many boards.
-fn footer(pen: &Pen, tricks: &Option<Table>, boards: usize) -> &'static [u8]
-    ensures { result.now ≡ footer_after (format_of pen.now) tricks.now boards }
-{
-    match tricks {
-        Some(table) if table.is_short(boards) => b"",
-        _ => pen.footer(),
+        put_all(sink, self.footer())
     }
 }
 

@@ -24,7 +24,7 @@ pub struct SolvedPrinter {
 }
 
 impl Model for SolvedPrinter {
-    ghost use Rattle.std.specs.Prelude.{◌≡◌, ◌≢◌, None, if◌then◌else◌};
+    ghost use Rattle.std.specs.Prelude.{◌≡◌, false, if◌then◌else◌, true};
     ghost use Rattle.notations.specs.Formats.{SolvingAs};
 
     ghost Value = { SolvingAs };
@@ -41,8 +41,8 @@ impl Model for SolvedPrinter {
       format : p.solved.format ≡ p.plain.format;
       show : p.solved.show ≡ p.plain.show;
       heading : p.solved.heading ≡ p.plain.heading;
-      none : p.plain.tricks ≡ None;
-      some : p.solved.tricks ≢ None;
+      without : p.plain.tricks ≡ false;
+      tricks : p.solved.tricks ≡ true;
     } };
 }
 
@@ -65,8 +65,7 @@ impl SolvedPrinter {
         ensures text { IfOk result (λ p. p.text ≡ []) }
     {
         let plain = AnyPrinter::showing(alloc, format, show, captions)?;
-        let none = Vec::new(alloc);
-        let solved = AnyPrinter::with_tricks(alloc, format, show, captions, 1, none)?;
+        let solved = AnyPrinter::with_tricks(alloc, format, show, captions)?;
         Ok(SolvedPrinter {
             plain,
             solved,

@@ -1,5 +1,5 @@
 -- What a printer makes of its pen.
-use Rattle.std.specs.Prelude.{◌≡◌, ℕ, List, [], Option, None, Some, if◌then◌else◌, length, nat_lt, ⊤}
+use Rattle.std.specs.Prelude.{◌≡◌, ℕ, List, Bool, false, ⊤}
 use Prim.{⊥}
 use Rattle.boards.specs.Headings.{HeadingView}
 use Rattle.notations.specs.declared.pen.Pen.{Pen}
@@ -8,7 +8,6 @@ use Rattle.boards.specs.declared.format.Format.{Format}
 use Rattle.boards.specs.declared.format.Format.TheVariants.{Pbn, Numbers}
 use Rattle.boards.specs.declared.show.Show.{Show}
 use Rattle.boards.specs.declared.show.Seats.TheVariants.{All}
-use Rattle.notations.specs.Formats.{TableView, footer_of}
 use Rattle.boards.specs.TricksLines.{TricksView, nothing_known}
 
 abbrev pub format_of : Pen → Format
@@ -32,15 +31,9 @@ Writes show tricks (pen.Games printer) = (show.seats ≡ All) × (tricks ≡ not
 Writes show tricks _ = ⊤
 
 -- it is one only where all hands are written, and there are no tricks
-abbrev pub IsFor : {X : Type 0} → Show → Option X → Pen → Type 0
-IsFor show tricks (pen.Games printer) = (show.seats ≡ All) × (tricks ≡ None)
+abbrev pub IsFor : Show → (tricks : Bool) → Pen → Type 0
+IsFor show tricks (pen.Games printer) = (show.seats ≡ All) × (tricks ≡ false)
 IsFor show tricks _ = ⊤
-
--- what comes after this many boards
-abbrev pub footer_after : Format → Option TableView → ℕ → List ℕ
-footer_after format None count = footer_of format
-footer_after format (Some table) count =
-    if nat_lt (length table.lines) count then [] else footer_of format
 
 -- it is a printer of games
 abbrev pub IsPlain : Pen → Type 0

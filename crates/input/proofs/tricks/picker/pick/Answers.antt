@@ -11,7 +11,7 @@ use Rattle.input.proofs.tricks.picker.pick.Goals as goal
 pub returns-in-Err-clause-tells : goal.returns-in-Err-clause-tells
 returns-in-Err-clause-tells g c =
     let p = c.args.printer.now in
-    let header : (layout_in p.format p.show p.heading p.tricks).header ≡ header_with_tricks p.format p.heading = rw c.requires.ready.1 refl in
+    let header : (layout_in p.format p.show p.heading p.tricks).header ≡ header_with_tricks p.format p.heading = rw c.requires.ready refl in
     let part = rw header at (rw c.header.ensures at c.in-Err.ensures.bytes) in
     header_broken (written_by p) (text_picks c.args.plan.now) (g.I.Source.rest c.args.input.now)
     (g.S.Sink.bytes c.args.sink.now) (g.S.Sink.bytes c.put_all.new.sink) part
@@ -19,7 +19,7 @@ returns-in-Err-clause-tells g c =
 pub loop-turn-init : goal.loop-turn-init
 loop-turn-init g c =
     let p = c.args.printer.now in
-    let header : (layout_in p.format p.show p.heading p.tricks).header ≡ header_with_tricks p.format p.heading = rw c.requires.ready.1 refl in
+    let header : (layout_in p.format p.show p.heading p.tricks).header ≡ header_with_tricks p.format p.heading = rw c.requires.ready refl in
     let put = rw header at (rw c.header.ensures at c.in-Ok.ensures.bytes) in
     record {
       ready = c.requires.ready;
