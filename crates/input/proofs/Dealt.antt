@@ -8,7 +8,7 @@ use Rattle.std.proofs.lemmas.Bool.{and_right, eq-eqb, eqb-false, eqb-true, lt-lt
 use Rattle.std.proofs.lemmas.Bool.Decides.{nat_tests}
 use Rattle.std.proofs.lemmas.List.{ext_get_or, get_or-map, get_or-set_other, get_or-set_same, length-map, length-set}
 use Rattle.std.proofs.lemmas.List.FromFn.{get_or-map-range_with_len, get_or-range_with_len, length-map-range_with_len}
-use Rattle.boards.specs.Letters.{letters}
+use Rattle.boards.specs.Letters.{letters, suit_letters}
 use Rattle.cards.specs.declared.seat.Seat.{Seat}
 use Rattle.cards.specs.declared.seat.Seat.TheVariants.{North, East, South, West}
 use Rattle.std.proofs.lemmas.List.{append-nil, get_or-replicate, length-append}
@@ -20,7 +20,7 @@ use Rattle.input.specs.internal.TagTexts.{is_plain}
 use Rattle.cards.specs.Deals.{IsPartition}
 use Rattle.cards.specs.Hands.{hand_of, holds_card}
 use Rattle.cards.specs.Pack.{seat_number, seat_of_number}
-use Rattle.pbn_text.specs.Games.{deal_text, suit_text}
+use Rattle.pbn_text.specs.Games.{deal_text}
 use Rattle.input.specs.DealValues.{deal_in, given, gives, none_given, rank_in, seat_in, separator, whole}
 use Rattle.input.specs.Values.{dealer_in}
 use Rattle.input.proofs.Partitions.{all_some, passes, seats_again}
@@ -302,7 +302,7 @@ all_read deal count =
     ∙ part_read deal count 15 3 West (record { suit = refl; holder = refl; number = refl; few = omega arith }) 0 13 [] refl
 
 parts_are : (deal : List Seat) → deal_text deal ≡ 78 ∷ 58 ∷ all_parts deal
-unfolding suit_text
+unfolding suit_letters
 parts_are deal =
     nested (part deal North 0) (part deal North 1) (part deal North 2) (part deal North 3) (part deal East 0)
     (part deal East 1) (part deal East 2) (part deal East 3) (part deal South 0) (part deal South 1)

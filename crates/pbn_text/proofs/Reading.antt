@@ -13,9 +13,11 @@ use Rattle.cards.specs.declared.seat.Seat.TheVariants.{North, East, South, West}
 use Rattle.cards.specs.declared.suit.Suit.{Suit}
 use Rattle.cards.specs.declared.suit.Suit.TheVariants.{Spades, Hearts, Diamonds, Clubs}
 use Rattle.cards.specs.Pack.{seat_number, suit_number}
+use Rattle.cards.specs.Ranks.{has_rank}
 use Rattle.cards.specs.Hands.{holds_card, hand_of}
-use Rattle.pbn_text.specs.Games.{letters, suit_text, hand_text, deal_text, heading_text, board_text, tag, game, game_text, HeadingView}
+use Rattle.pbn_text.specs.Games.{hand_text, deal_text, heading_text, board_text, tag, game, game_text, HeadingView}
 use Rattle.boards.specs.Law2.{board_by_law}
+use Rattle.boards.specs.Letters.{letters, suit_letters}
 
 -- whether a byte differs from this one
 abbrev differs : ℕ → ℕ → Bool
@@ -77,10 +79,10 @@ chosen_pass test f p (x ∷ xs) h =
     ]
 
 suit_lacks : (c : ℕ) (hand : List Bool) (suit : Suit) → list_all (λ rank. differs c (slice_index letters rank))
-    (range_with_len 0 13) ≡ true → Lacks c (suit_text hand suit)
-unfolding suit_text
+    (range_with_len 0 13) ≡ true → Lacks c (suit_letters hand suit)
+unfolding suit_letters
 suit_lacks c hand suit h = chosen_pass (differs c) (slice_index letters)
-    (λ rank. holds_card hand (13 * suit_number suit + rank)) (range_with_len 0 13) h
+    (has_rank hand suit) (range_with_len 0 13) h
 
 -- no two of these have the same letter
 apart : (ℕ → ℕ) → List ℕ → Bool
@@ -122,19 +124,17 @@ letters_apart : apart (slice_index letters) (range_with_len 0 13) ≡ true
 unfolding apart
 letters_apart = refl
 
-abbrev has : List Bool → Suit → ℕ → Bool
-has hand suit rank = holds_card hand (13 * suit_number suit + rank)
+ranks_from_suit : (a b : List Bool) (suit : Suit) → suit_letters a suit ≡ suit_letters b suit
+    → map (has_rank a suit) (range_with_len 0 13) ≡ map (has_rank b suit) (range_with_len 0 13)
+unfolding suit_letters
+ranks_from_suit a b suit e = same_choice (slice_index letters) (has_rank a suit) (has_rank b suit) (range_with_len 0 13) letters_apart e
 
-ranks_from_suit : (a b : List Bool) (suit : Suit) → suit_text a suit ≡ suit_text b suit
-    → map (has a suit) (range_with_len 0 13) ≡ map (has b suit) (range_with_len 0 13)
-unfolding suit_text
-ranks_from_suit a b suit e = same_choice (slice_index letters) (has a suit) (has b suit) (range_with_len 0 13) letters_apart e
-
-rank_from_suit : (a b : List Bool) (suit : Suit) (rank : ℕ) → rank < 13 → suit_text a suit ≡ suit_text b suit → has a suit rank ≡ has b suit rank
+rank_from_suit : (a b : List Bool) (suit : Suit) (rank : ℕ) → rank < 13 → suit_letters a suit ≡ suit_letters b suit
+    → has_rank a suit rank ≡ has_rank b suit rank
 rank_from_suit a b suit rank h e =
-    sym (get_or-map-range_with_len (has a suit) 0 13 rank rank false h (omega arith))
+    sym (get_or-map-range_with_len (has_rank a suit) 0 13 rank rank false h (omega arith))
     ∙ ap (λ xs. get_or xs rank false) (ranks_from_suit a b suit e)
-    ∙ get_or-map-range_with_len (has b suit) 0 13 rank rank false h (omega arith)
+    ∙ get_or-map-range_with_len (has_rank b suit) 0 13 rank rank false h (omega arith)
 
 -- four parts with one byte between each two, grouped to the right
 grouped : (c : ℕ) (n w x y z : List ℕ) → n ++ w ++ (c ∷ []) ++ x ++ (c ∷ []) ++ y ++ (c ∷ []) ++ z ≡ n ++ (w ++ (c ∷ (x ++ (c ∷ (y ++ (c ∷ z))))))
@@ -163,20 +163,20 @@ each_seat P n e s w East = e
 each_seat P n e s w South = s
 each_seat P n e s w West = w
 
-no_dot : (hand : List Bool) (suit : Suit) → Lacks 0x2E (suit_text hand suit)
+no_dot : (hand : List Bool) (suit : Suit) → Lacks 0x2E (suit_letters hand suit)
 no_dot hand suit = suit_lacks 0x2E hand suit refl
 
-suits_from_hand : (a b : List Bool) → hand_text a ≡ hand_text b → (suit : Suit) → suit_text a suit ≡ suit_text b suit
+suits_from_hand : (a b : List Bool) → hand_text a ≡ hand_text b → (suit : Suit) → suit_letters a suit ≡ suit_letters b suit
 suits_from_hand a b e suit =
-    let parts = four_parts 0x2E [] (suit_text a Spades) (suit_text a Hearts) (suit_text a Diamonds)
-    (suit_text a Clubs) (suit_text b Spades) (suit_text b Hearts) (suit_text b Diamonds) (suit_text b Clubs)
+    let parts = four_parts 0x2E [] (suit_letters a Spades) (suit_letters a Hearts) (suit_letters a Diamonds)
+    (suit_letters a Clubs) (suit_letters b Spades) (suit_letters b Hearts) (suit_letters b Diamonds) (suit_letters b Clubs)
     (no_dot a Spades) (no_dot a Hearts) (no_dot a Diamonds) (no_dot b Spades) (no_dot b Hearts) (no_dot b Diamonds) e in
-    each_suit (λ s. suit_text a s ≡ suit_text b s) parts.0 parts.1 parts.2 parts.3 suit
+    each_suit (λ s. suit_letters a s ≡ suit_letters b s) parts.0 parts.1 parts.2 parts.3 suit
 
 lacks-append : (c : ℕ) (xs ys : List ℕ) → Lacks c xs → Lacks c ys → Lacks c (xs ++ ys)
 lacks-append c xs ys p q = list_all-append (differs c) xs ys ∙ both (list_all (differs c) xs) (list_all (differs c) ys) p q
 
-no_space_in_suit : (hand : List Bool) (suit : Suit) → Lacks 0x20 (suit_text hand suit)
+no_space_in_suit : (hand : List Bool) (suit : Suit) → Lacks 0x20 (suit_letters hand suit)
 no_space_in_suit hand suit = suit_lacks 0x20 hand suit refl
 
 dotted : (w x y z : List ℕ) → Lacks 0x20 w → Lacks 0x20 x → Lacks 0x20 y → Lacks 0x20 z
@@ -190,8 +190,8 @@ dotted w x y z p q r s =
     lacks-append 0x20 (w ++ (0x2E ∷ []) ++ x ++ (0x2E ∷ []) ++ y ++ (0x2E ∷ [])) z e s
 
 no_space : (hand : List Bool) → Lacks 0x20 (hand_text hand)
-no_space hand = dotted (suit_text hand Spades) (suit_text hand Hearts) (suit_text hand Diamonds)
-    (suit_text hand Clubs) (no_space_in_suit hand Spades) (no_space_in_suit hand Hearts)
+no_space hand = dotted (suit_letters hand Spades) (suit_letters hand Hearts) (suit_letters hand Diamonds)
+    (suit_letters hand Clubs) (no_space_in_suit hand Spades) (no_space_in_suit hand Hearts)
     (no_space_in_suit hand Diamonds) (no_space_in_suit hand Clubs)
 
 hands_from_deal : (d e : List Seat) → deal_text d ≡ deal_text e → (seat : Seat) → hand_text (hand_of d seat) ≡ hand_text (hand_of e seat)
@@ -205,7 +205,7 @@ hands_from_deal d e same seat =
 
 -- a card by its suit and its rank
 by_suit : (a b : List Bool) (c : ℕ) → c < 52 → ((suit : Suit) (rank : ℕ) → rank < 13
-    → has a suit rank ≡ has b suit rank) → holds_card a c ≡ holds_card b c
+    → has_rank a suit rank ≡ has_rank b suit rank) → holds_card a c ≡ holds_card b c
 by_suit a b c h same =
     elim (cases_lt c 13) [
       | inl s ↦ at Spades c 0 s refl (omega arith)

@@ -1,5 +1,5 @@
 -- A suit's text, rank by rank, and its length.
-use Rattle.std.proofs.Common.{◌≡◌, ℕ, ◌+◌, ◌*◌, ◌<◌, ◌==◌, Bool, true, false, cond, List, [], ◌∷◌, ◌++◌, length}
+use Rattle.std.proofs.Common.{◌≡◌, ℕ, ◌+◌, ◌<◌, ◌==◌, Bool, true, false, cond, List, [], ◌∷◌, ◌++◌, length}
 use Rattle.std.proofs.Common.{get_or, set, take, map, inl, inr, ◌⊎◌, refl, sym, ◌∙◌, ap, arith}
 use Rattle.std.specs.Prelude.{slice_index}
 use Rattle.std.specs.List.{range_with_len, filter, count_by}
@@ -10,20 +10,16 @@ use Rattle.std.proofs.lemmas.List.Sums.{length-filter, sum_by-cons}
 use Rattle.cards.specs.declared.seat.Seat.{Seat}
 use Rattle.cards.specs.declared.suit.Suit.{Suit}
 use Rattle.cards.specs.declared.suit.Suit.TheVariants.{Spades, Hearts, Diamonds, Clubs}
-use Rattle.cards.specs.Pack.{suit_number, seat_number}
+use Rattle.cards.specs.Pack.{seat_number}
+use Rattle.cards.specs.Ranks.{has_rank}
 use Rattle.cards.specs.Shuffle.{pack}
 use Rattle.cards.specs.Deals.{IsPartition}
 use Rattle.cards.specs.Hands.{holds_card, length_of, hand_of}
-use Rattle.boards.specs.Letters.{suit_letters}
-use Rattle.pbn_text.specs.Games.{letters, suit_text}
-
--- the card of the suit and the rank
-abbrev has : List Bool → Suit → ℕ → Bool
-has hand suit rank = holds_card hand (13 * suit_number suit + rank)
+use Rattle.boards.specs.Letters.{letters, suit_letters}
 
 -- the letters of the ranks below n
 unfoldable pub first_ranks : List Bool → Suit → ℕ → List ℕ
-first_ranks hand suit n = map (slice_index letters) (filter (λ rank. holds_card hand (13 * suit_number suit + rank)) (range_with_len 0 n))
+first_ranks hand suit n = map (slice_index letters) (filter (has_rank hand suit) (range_with_len 0 n))
 
 range_more : (n : ℕ) → range_with_len 0 (n + 1) ≡ range_with_len 0 n ++ n ∷ []
 range_more n = sym (map-id (range_with_len 0 (n + 1))) ∙ map-range_with_len_more (λ x. x) 0 n n (omega arith)
@@ -33,39 +29,34 @@ one_letter : (f : ℕ → ℕ) (p : ℕ → Bool) (n : ℕ) (b : Bool) → b ≡
 one_letter f p n true e = rw (← e) refl
 one_letter f p n false e = rw (← e) refl
 
-pub first_ranks-more : (hand : List Bool) (suit : Suit) (n : ℕ) (b : Bool) → b ≡ has hand suit n
+pub first_ranks-more : (hand : List Bool) (suit : Suit) (n : ℕ) (b : Bool) → b ≡ has_rank hand suit n
     → first_ranks hand suit (n + 1) ≡ first_ranks hand suit n ++ cond b (slice_index letters n ∷ []) []
 unfolding first_ranks
 first_ranks-more hand suit n b e =
-    ap (λ xs. map (slice_index letters) (filter (has hand suit) xs)) (range_more n)
-    ∙ ap (map (slice_index letters)) (filter-append (has hand suit) (range_with_len 0 n) (n ∷ []))
-    ∙ map-append (slice_index letters) (filter (has hand suit) (range_with_len 0 n)) (filter (has hand suit) (n ∷ []))
-    ∙ ap (λ xs. map (slice_index letters) (filter (has hand suit) (range_with_len 0 n)) ++ xs)
-    (one_letter (slice_index letters) (has hand suit) n b e)
+    ap (λ xs. map (slice_index letters) (filter (has_rank hand suit) xs)) (range_more n)
+    ∙ ap (map (slice_index letters)) (filter-append (has_rank hand suit) (range_with_len 0 n) (n ∷ []))
+    ∙ map-append (slice_index letters) (filter (has_rank hand suit) (range_with_len 0 n)) (filter (has_rank hand suit) (n ∷ []))
+    ∙ ap (λ xs. map (slice_index letters) (filter (has_rank hand suit) (range_with_len 0 n)) ++ xs)
+    (one_letter (slice_index letters) (has_rank hand suit) n b e)
 
 pub first_ranks-none : (hand : List Bool) (suit : Suit) → first_ranks hand suit 0 ≡ []
 unfolding first_ranks
 first_ranks-none hand suit = refl
 
-pub first_ranks-all : (hand : List Bool) (suit : Suit) (n : ℕ) → n ≡ 13 → first_ranks hand suit n ≡ suit_text hand suit
-unfolding first_ranks suit_text
+pub first_ranks-all : (hand : List Bool) (suit : Suit) (n : ℕ) → n ≡ 13 → first_ranks hand suit n ≡ suit_letters hand suit
+unfolding first_ranks suit_letters
 first_ranks-all hand suit n e = rw e refl
 
--- the letters that every printer writes are this notation's
-pub letters_are : (hand : List Bool) (suit : Suit) → suit_letters hand suit ≡ suit_text hand suit
-unfolding suit_letters suit_text
-letters_are hand suit = refl
-
-suit_count : (hand : List Bool) (suit : Suit) → count_by (has hand suit) (range_with_len 0 13) ≡ length_of hand suit
+suit_count : (hand : List Bool) (suit : Suit) → count_by (has_rank hand suit) (range_with_len 0 13) ≡ length_of hand suit
 unfolding pack
 suit_count hand Spades = omega arith
 suit_count hand x = omega arith
 
-pub length-suit_text : (hand : List Bool) (suit : Suit) → length (suit_text hand suit) ≡ length_of hand suit
-unfolding suit_text
-length-suit_text hand suit =
+pub length-suit_letters : (hand : List Bool) (suit : Suit) → length (suit_letters hand suit) ≡ length_of hand suit
+unfolding suit_letters
+length-suit_letters hand suit =
     simp length-map
-    (length-filter (has hand suit) (range_with_len 0 13) ∙ suit_count hand suit)
+    (length-filter (has_rank hand suit) (range_with_len 0 13) ∙ suit_count hand suit)
 
 counted : (p : Seat → Bool) (deal : List Seat) → count_by (λ b. b) (map p deal) ≡ count_by p deal
 counted p [] = refl
@@ -87,9 +78,9 @@ thirteen deal seat ok =
 
 -- what a loop reads of the ranks
 pub rank_read : (hand : List Bool) (suit : Suit) (ranks : List Bool) (n : ℕ)
-    → ranks ≡ map (λ rank. holds_card hand (13 * suit_number suit + rank)) (range_with_len 0 13) → n < 13
-    → get_or ranks n false ≡ holds_card hand (13 * suit_number suit + n)
-rank_read hand suit ranks n e h = ap (λ xs. get_or xs n false) e ∙ get_or-map-range_with_len (has hand suit) 0 13 n n false h (omega arith)
+    → ranks ≡ map (has_rank hand suit) (range_with_len 0 13) → n < 13
+    → get_or ranks n false ≡ has_rank hand suit n
+rank_read hand suit ranks n e h = ap (λ xs. get_or xs n false) e ∙ get_or-map-range_with_len (has_rank hand suit) 0 13 n n false h (omega arith)
 
 pub either : (b : Bool) → (b ≡ true) ⊎ (b ≡ false)
 either true = inl refl
@@ -98,7 +89,7 @@ either false = inr refl
 -- a buffer's front and the ranks below n, after the next letter is written and counted
 pub one_written : (buffer front : List ℕ) (from : ℕ) (hand : List Bool) (suit : Suit) (n end new : ℕ)
     → end < length buffer → new ≡ end + 1 → take end buffer ≡ front ++ first_ranks hand suit n
-    → end ≡ from + length (first_ranks hand suit n) → true ≡ holds_card hand (13 * suit_number suit + n)
+    → end ≡ from + length (first_ranks hand suit n) → true ≡ has_rank hand suit n
     → (take new (set buffer end (slice_index letters n)) ≡ front ++ first_ranks hand suit (n + 1))
     × (new ≡ from + length (first_ranks hand suit (n + 1)))
 one_written buffer front from hand suit n end new inside step written count held =
@@ -113,7 +104,7 @@ one_written buffer front from hand suit n end new inside step written count held
 -- the same after a letter that is not counted
 pub one_passed : (buffer front : List ℕ) (from : ℕ) (hand : List Bool) (suit : Suit) (n end new : ℕ) → new ≡ end
     → take end buffer ≡ front ++ first_ranks hand suit n → end ≡ from + length (first_ranks hand suit n)
-    → false ≡ holds_card hand (13 * suit_number suit + n)
+    → false ≡ has_rank hand suit n
     → (take new (set buffer end (slice_index letters n)) ≡ front ++ first_ranks hand suit (n + 1))
     × (new ≡ from + length (first_ranks hand suit (n + 1)))
 one_passed buffer front from hand suit n end new step written count held =

@@ -1,17 +1,14 @@
 -- Portable Bridge Notation 2.1 in this project's profile: a text is the header line and the games.
-use Rattle.std.specs.Prelude.{ℕ, ◌+◌, ◌*◌, List, [], ◌++◌, Option, Some, None, Bool, map, filter}
-use Rattle.std.specs.Prelude.{codes, decimal, slice_index}
-use Rattle.std.specs.List.{range_with_len}
+use Rattle.std.specs.Prelude.{ℕ, List, [], ◌++◌, Option, Some, None, Bool, codes, decimal}
 use Rattle.cards.specs.declared.seat.Seat.{Seat}
 use Rattle.cards.specs.declared.seat.Seat.TheVariants.{North, East, South, West}
-use Rattle.cards.specs.declared.suit.Suit.{Suit}
 use Rattle.cards.specs.declared.suit.Suit.TheVariants.{Spades, Hearts, Diamonds, Clubs}
-use Rattle.cards.specs.Pack.{suit_number}
-use Rattle.cards.specs.Hands.{hand_of, holds_card}
+use Rattle.cards.specs.Hands.{hand_of}
 use Rattle.boards.specs.declared.board.Board.{Board}
 use Rattle.boards.specs.declared.setting.Vul.{Vul}
 use Rattle.boards.specs.declared.setting.Vul.TheVariants.{Neither, NorthSouth, EastWest, Both}
 use Rattle.boards.specs.Law2.{board_by_law}
+use Rattle.boards.specs.Letters.{suit_letters}
 use Rattle.boards.specs.Layouts.{Layout, ends_with}
 pub use Rattle.boards.specs.Headings.{HeadingView, no_heading}
 
@@ -39,21 +36,12 @@ vulnerable_text NorthSouth = codes "NS"
 vulnerable_text EastWest = codes "EW"
 vulnerable_text Both = codes "All"
 
-abbrev pub letters : List ℕ
-letters = codes "AKQJT98765432"
-
--- the letters of the ranks that the hand has in the suit, the ace first
-unfoldable pub suit_text : List Bool → Suit → List ℕ
-suit_text hand suit =
-    map (slice_index letters)
-    (filter (λ rank. holds_card hand (13 * suit_number suit + rank)) (range_with_len 0 13))
-
 abbrev pub hand_text : List Bool → List ℕ
 hand_text hand =
-    suit_text hand Spades ++ codes "."
-    ++ suit_text hand Hearts ++ codes "."
-    ++ suit_text hand Diamonds ++ codes "."
-    ++ suit_text hand Clubs
+    suit_letters hand Spades ++ codes "."
+    ++ suit_letters hand Hearts ++ codes "."
+    ++ suit_letters hand Diamonds ++ codes "."
+    ++ suit_letters hand Clubs
 
 abbrev pub deal_text : List Seat → List ℕ
 deal_text deal =

@@ -13,7 +13,8 @@
 
 ghost use Rattle.std.specs.Prelude.{◌≡◌, [], ⊤, IfOk, ◌+◌, ◌≤◌, ◌++◌, length, drop, take, codes};
 ghost use Rattle.std.specs.Prelude.{decimal};
-ghost use Rattle.pbn_text.specs.Games.{game_text, pbn, hand_text, suit_text};
+ghost use Rattle.boards.specs.Letters.{suit_letters};
+ghost use Rattle.pbn_text.specs.Games.{game_text, pbn, hand_text};
 ghost use Rattle.cards.specs.Hands.{hand_of, length_of};
 ghost use Rattle.cards.specs.declared.suit.Suit.TheVariants.{Spades, Hearts, Diamonds, Clubs};
 ghost use Rattle.pbn_text.specs.internal.Lines.{hands_text};
@@ -271,7 +272,7 @@ fn put_suit(
 ) -> usize
     requires { start ≤ 496 }
     ensures written { take result buffer.new
-        ≡ take start buffer.old ++ (suit_text hand.now suit ++ codes ".") }
+        ≡ take start buffer.old ++ (suit_letters hand.now suit ++ codes ".") }
     ensures len { result ≡ start + (length_of hand.now suit + 1) }
     ensures max { result ≤ start + 14 }
 {

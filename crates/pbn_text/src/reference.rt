@@ -5,12 +5,13 @@
 
 ghost use Rattle.std.specs.Prelude.{◌≡◌, ◌≤◌, ◌+◌, List, [], ◌++◌, ⊤, length, take};
 ghost use Rattle.arrayvec.specs.ArrayVec.{array_vec_len};
+ghost use Rattle.boards.specs.Letters.{suit_letters};
 ghost use Rattle.cards.specs.declared.seat.Seat.{Seat};
 ghost use Rattle.cards.specs.Deals.{IsPartition};
 ghost use Rattle.cards.specs.Hands.{hand_of, length_of};
 ghost use Rattle.cards.specs.declared.suit.Suit.TheVariants.{Spades, Hearts, Diamonds, Clubs};
 ghost use Rattle.pbn_text.specs.Games.{game as game_of, game_text, no_heading, board_text, pbn};
-ghost use Rattle.pbn_text.specs.Games.{hand_text, suit_text};
+ghost use Rattle.pbn_text.specs.Games.{hand_text};
 ghost use Rattle.pbn_text.specs.Games.{deal_text as text_of_deal};
 ghost use Rattle.pbn_text.specs.internal.Lines.{deal_line};
 
@@ -207,7 +208,7 @@ fn write_hand(buffer: &mut [u8; HAND_BUFFER_LEN], hand: &Hand) -> usize
 /// than a branch for each.
 fn write_suit(buffer: &mut [u8; HAND_BUFFER_LEN], start: usize, hand: &Hand, suit: Suit) -> usize
     requires { start ≤ 42 }
-    ensures written { take result buffer.new ≡ take start buffer.old ++ suit_text hand.now suit }
+    ensures written { take result buffer.new ≡ take start buffer.old ++ suit_letters hand.now suit }
     ensures len { result ≡ start + length_of hand.now suit }
     ensures max { result ≤ start + 13 }
 {

@@ -1,9 +1,8 @@
--- The letters of a suit are those of PBN.
+-- The letters and dots, added one by one, are the hand's.
 use Rattle.std.proofs.Common.{◌≡◌, ℕ, List, ◌++◌, ◌∙◌, codes, ap}
 use Rattle.std.proofs.lemmas.List.{append_assoc}
 use Rattle.boards.specs.Letters.{suit_letters}
 use Rattle.cards.specs.declared.suit.Suit.TheVariants.{Spades, Hearts, Diamonds, Clubs}
-use Rattle.pbn_text.proofs.Suits.{letters_are}
 use Rattle.notations.proofs.dotted.put_cards.Goals as goal
 
 grouped : (old spades hearts diamonds clubs dot : List ℕ)
@@ -18,6 +17,5 @@ returns-clause-text c =
     let one = c.put_dotted.ensures.text in
     let two = c.put_dotted-2.ensures.text ∙ ap (λ xs. xs ++ (suit_letters hand Hearts ++ dot)) one in
     let three = c.put_dotted-3.ensures.text ∙ ap (λ xs. xs ++ (suit_letters hand Diamonds ++ dot)) two in
-    rw (← letters_are hand Spades, ← letters_are hand Hearts, ← letters_are hand Diamonds, ← letters_are hand Clubs)
-    (c.put.ensures.text ∙ ap (λ xs. xs ++ suit_letters hand Clubs) three
-    ∙ grouped c.args.text.now (suit_letters hand Spades) (suit_letters hand Hearts) (suit_letters hand Diamonds) (suit_letters hand Clubs) dot)
+    c.put.ensures.text ∙ ap (λ xs. xs ++ suit_letters hand Clubs) three
+    ∙ grouped c.args.text.now (suit_letters hand Spades) (suit_letters hand Hearts) (suit_letters hand Diamonds) (suit_letters hand Clubs) dot

@@ -1,6 +1,6 @@
 use Rattle.std.proofs.Common.{◌≡◌, ◌+◌, ◌++◌, ◌∙◌, false, length, get_or, sym, ap, arith, take, inl, inr}
 use Rattle.std.proofs.lemmas.List.{append-nil, length-set}
-use Rattle.pbn_text.proofs.Suits.{first_ranks-none, first_ranks-all, length-suit_text, rank_read, either, one_written, one_passed}
+use Rattle.pbn_text.proofs.Suits.{first_ranks-none, first_ranks-all, length-suit_letters, rank_read, either, one_written, one_passed}
 use Rattle.pbn_text.proofs.reference.write_suit.Goals as goal
 
 pub loop-rank-init : goal.loop-rank-init
@@ -49,4 +49,4 @@ pub returns-clause-len : goal.returns-clause-len
 returns-clause-len c =
     c.loop-rank.invariant.end_is
     ∙ ap (λ n. c.args.start + n) (ap length (first_ranks-all c.args.hand.now c.args.suit c.loop-rank.rank
-    (omega arith)) ∙ length-suit_text c.args.hand.now c.args.suit)
+    (omega arith)) ∙ length-suit_letters c.args.hand.now c.args.suit)
