@@ -139,7 +139,7 @@ impl TricksPicker {
 }
 
 /// Writes the boards of the candidates whose numbers the input gives, each with the tricks that its
-/// line tells, to a printer that was made for boards with tricks and has printed nothing: the
+/// line tells, to a printer that was made for boards with tricks: the
 /// header, the boards, each as soon as its line was read, and the footer. Of the plan its seed, its
 /// fixed cards, its first board and its setting count. Before each line the sink hears how many
 /// boards there are.

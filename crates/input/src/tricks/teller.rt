@@ -197,7 +197,7 @@ fn end_last<S: Sink>(
 }
 
 /// Writes the boards of these candidates of the plan with the tricks that the input tells, a line
-/// for each, to a printer that was made for boards with tricks and has printed nothing: the
+/// for each, to a printer that was made for boards with tricks: the
 /// header, the boards, each as soon as its line was read, and the footer. Before each read the sink
 /// hears how many there are.
 ///
