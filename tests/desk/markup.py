@@ -1,6 +1,7 @@
 """The pages' HTML in a checker, and what browsers are told of it."""
 
 import html
+import json
 import pathlib
 import re
 import subprocess
@@ -76,6 +77,47 @@ def contracts(desk):
         yield f"sides turn: {turn}", ("The sides turn with the hands" in page) == is_told and "<iframe" in page
 
 
+# A text, and the text that its button gives; none where a hint is for more or less than what it would replace.
+MENDS = [
+    ("hcp(nord)>=15", "hcp(north)>=15"),
+    ("hcp(nord)>=15 and hcp(sud)>=3", "hcp(north)>=15 and hcp(sud)>=3"),
+    ("hcp(north) is 15", "hcp(north) == 15"),
+    ("hcp(north)=5-9", "hcp(north) in 5-9"),
+    ("(hcp(north)+hcp(south))>=25", "hcp(north)+hcp(south)>=25"),
+    ("shape(north,5332)", "shape(north,5-3-3-2)"),
+    ("not (hcp(north)+hcp(south))>=25", None),
+    ("not shape(north,5332)", None),
+    ("any suit (len(north,suit)==5-6)", None),
+    ("every suit (len(north,suit)==2-5)", None),
+    ("let nt(seat) is (unbalanced(seat)) nt(north)", None),
+    ("# a weak hand\nhcp(north)=5-9", None),
+    ("hcp(north)=5-9 # a weak hand", None),
+    ("hcp(north)=5-9 & hcp(south)>=3", None),
+    ("hcp(north)=5-9, hcp(south)>=3", None),
+    ("hcp(north)=5-9\nhcp(south)>=3", None),
+    ("hcp north >= 15", None),
+    ("aces(north)==2", None),
+    ("top3(north,spades)>=2", None),
+    ("hcp(north+south)>=25", None),
+    ("[hcp north] >= 15", None),
+    ("no suit (len(north,suit)>=5)", None),
+    ("Punkte(nord)>=15", None),
+    ("hcp(s\u00fcd)>=12", None),
+    ("hcp(nord", None),
+]
+
+
+def mends(desk):
+    """A button writes what a hint surely means: the word in the marked place, or the whole of a text that is one test."""
+    for text, mended in MENDS:
+        answer = json.loads(desk.post("/check/where", {"text": text}).text)
+        yield f"mended: {text}", answer["mended"] == mended and bool(answer["mend"]) == (mended is not None)
+        yield f"accepted: {mended}", mended is None or "sud" in mended or not json.loads(desk.post("/check/where", {"text": mended}).text)
+    for name in ("of", "by"):
+        answer = json.loads(desk.post(f"/check/{name}", {"text": "hcp(nord)"}).text)
+        yield f"mended in {name}", answer["mended"] == "hcp(north)"
+
+
 def rare(desk):
     """A page of rare hands notes nothing of the one deal that is tried to check its words."""
     page = desk.get("/lesson", {"boards": "1", "seed": "7", "where": "hcp(north)>=26"}).text
@@ -144,6 +186,7 @@ def pages():
         yield from checked(desk)
         yield from report.judged(empty(desk))
         yield from report.judged(contracts(desk))
+        yield from report.judged(mends(desk))
         yield from report.judged(rare(desk))
         yield from report.judged(secret(desk))
         yield from report.judged(parts(desk))

@@ -25,10 +25,13 @@ HINT = re.compile(r"^  hint: (.*)$", re.MULTILINE)
 BY_PBN = 'PBN has ASCII letters alone there, without " and \\. Sheets, slips and pages have all letters.'
 # Lines that help only who types commands.
 OF_A_SHELL = ("Usage: ", "For more information, try ")
-# A hint that puts one word in the place of the marked one.
-WRITE_WORD = re.compile(r'^write "([^"]*)"$')
+# A hint that puts one word or sign in the place of the marked one. One with brackets is for more than what is marked.
+WRITE_WORD = re.compile(r'^write "(\w+|[^\w\s"()\[\]{}]+)"$')
 # A hint that has a whole condition.
 WRITE_ALL = re.compile(r"^(?:.* )?write: (.*)$")
+# What a text has that says more than its one test, of which alone a hint speaks.
+MORE = re.compile(r"\b(and|or|not|any|every|let)\b|[#&|;]", re.IGNORECASE)
+CALL = re.compile(r"\w\s*\(")
 
 # What stands for the words that are told by what they are.
 WORDS = {
@@ -94,6 +97,11 @@ def characters(text: str, count: int) -> int:
     return len(text.encode()[:count].decode("utf-8", "ignore"))
 
 
+def is_one_test(text: str, whole: str) -> bool:
+    """Whether a hint's whole condition has all that a text says."""
+    return not MORE.search(text) and len(CALL.findall(text)) <= len(CALL.findall(whole))
+
+
 def mended(text: str, at: int, length: int, hints: tuple[str, ...]) -> tuple[str | None, str]:
     """The text as the first hint says, and what the hint puts there: in the place of what is marked, or of a text
     that is one test."""
@@ -102,9 +110,15 @@ def mended(text: str, at: int, length: int, hints: tuple[str, ...]) -> tuple[str
         if word:
             return text[:at] + word[1] + text[at + length :], word[1]
         whole = WRITE_ALL.match(hint)
-        if whole and not re.search(r"\b(and|or)\b", text):
+        if whole and is_one_test(text, whole[1]):
             return whole[1], whole[1]
     return None, ""
+
+
+def is_sure(answer: Answer, then: Answer | None) -> bool:
+    """Whether the mended text mends, by what is refused of it, if anything is: that has to come after what was put there
+    and the character that follows, as another fault does. A whole text has nothing after it, so it has to be accepted."""
+    return not then or (answer.at is not None and then.at is not None and then.at > answer.at + len(answer.mend))
 
 
 def note(said: str) -> str:
