@@ -152,6 +152,8 @@ def endless(desk):
     began = time.monotonic()
     answer = desk.get(NEVER)
     yield "a run that never ends", answer.status == 504 and time.monotonic() - began < 10
+    yield "rare hands are for a long search", 'href="/search?where=hcp%28north%29%3E%3D37&amp;seed=1">Long search' in answer.text
+    yield "its frame shows it", answer.headers["Content-Security-Policy"].endswith("frame-ancestors 'self'")
     yield "it is ended", until(lambda: not desk.children())
     connection = http.client.HTTPConnection("127.0.0.1", desk.port)
     connection.request("GET", NEVER, headers={"Host": f"127.0.0.1:{desk.port}"})

@@ -403,6 +403,24 @@ def plain_mistake(window, desk):
     window.until(lambda: "Board 12" in window.frame_text(), "the boards")
 
 
+def faults_in_frames(window, desk):
+    """A run that is refused or takes too long says so in its frame, and leads to a long search."""
+    for path, said in (
+        ("/lesson?show=foo&boards=2&seed=7", "Mend the field «Hands on the page»"),
+        ("/lesson?boards=12&seed=7&where=hcp(north)>%3D34", "This takes longer than a page can wait"),
+        ("/count?candidates=10000000000&seed=7&where=hcp(north)>%3D20", "for the page Long search"),
+    ):
+        window.go(desk.address + path)
+        window.until(lambda said=said: said in window.frame_text(), said)
+        yield f"{path}: short in its frame", "Tonight" not in window.frame_text()
+        yield from fits(window, path)
+    window.driver.switch_to.frame(window.find("iframe"))
+    window.driver.find_element("link text", "Long search with this condition").click()
+    window.driver.switch_to.default_content()
+    window.until(lambda: window.find("h1").text == "A search for rare hands", "the long search")
+    yield "its condition", window.find("[name=where]").get_attribute("value") == "hcp(north)>=20"
+
+
 def gone(ways_to_go, width, desk, has_scripts=True):
     """Ways in a window of this width. What didn't come is told, and the next way tried."""
     plain = "" if has_scripts else ", no scripts"
@@ -422,3 +440,6 @@ def ways():
             yield from report.judged(gone(WAYS, width, desk))
         yield from report.judged(gone([dark], NARROWEST, desk))
         yield from report.judged(gone([*PLAIN, plain_mistake], 1280, desk, has_scripts=False))
+    with serving.desk("--limits") as desk:
+        for width in (WIDTHS[0], WIDTHS[-1]):
+            yield from report.judged(gone([faults_in_frames], width, desk))

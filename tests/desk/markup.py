@@ -65,6 +65,44 @@ def empty(desk):
         yield f"tidy, {path} without {name}", not tidied(answer.text)
 
 
+# Numbers of deals that are refused, with what is said of them.
+DEALS_TO_TRY = [
+    ("1e6", "write digits alone"), ("10000000000000", "0 to 1099511627776"), ("1,000", "write digits alone"), ("-3", "a whole number"),
+]
+
+
+def deals_to_try(desk):
+    """A number of deals that is refused is told at its field before anything is searched."""
+    for number, said in DEALS_TO_TRY:
+        form = {"seed": "7", "boards": "4", "candidates": number, "where": "hcp(north)>=31"}
+        for ask, path in ((desk.get, "/count"), (desk.post, "/search")):
+            answer = ask(path, form)
+            told = answer.text.partition('id="candidates-refusal"')[2].partition("</div>")[0]
+            yield f"{path}, {number}", answer.status == 422 and said in told and "<iframe" not in answer.text
+    answer = desk.get("/count", {"seed": "7", "candidates": "10", "of": "nord"})
+    yield "a fault of another field", 'id="of-refusal"' in answer.text
+    answer = desk.post("/search", {"seed": "7", "first": "1099511627776", "candidates": "4", "boards": "1"})
+    yield "a place to begin that is too far", answer.status == 422 and "1099511627776" in answer.text
+
+
+# A request for what a page has in a frame.
+FRAMED = {"Sec-Fetch-Dest": "iframe", "Sec-Fetch-Mode": "navigate", "Sec-Fetch-Site": "same-origin"}
+
+
+def framed(desk):
+    """A fault is seen in a frame of this site's pages alone, and is short there."""
+    for path in ("/lesson/boards?show=foo&boards=2&seed=7", "/count/html?candidates=1e6&seed=7", "/search/gone/boards"):
+        for headers in (FRAMED, None):
+            answer = desk.get(path, headers=headers)
+            policy = answer.headers["Content-Security-Policy"]
+            yield f"{path}: may be in a frame", answer.status in (404, 422) and policy.endswith("frame-ancestors 'self'")
+            yield f"{path}: links leave the frame", '<base target="_top">' in answer.text
+            yield f"{path}: links of pages, {headers}", ("<nav" in answer.text) == (headers is None)
+            yield f"tidy, {path}", not tidied(answer.text)
+    for path in ("/", "/lesson", "/lesson?boards=x", "/count", "/search", "/help"):
+        yield f"{path}: in no frame", desk.get(path).headers["Content-Security-Policy"].endswith("frame-ancestors 'none'")
+
+
 def contracts(desk):
     """A contract that can't be read is told at its field, and boards with contracts say that sides turn with hands."""
     form = {"boards": "1", "seed": "7", "where": "len(south,spades)>=6", "makes": "4S-NS"}
@@ -186,6 +224,8 @@ def pages():
         yield from checked(desk)
         yield from report.judged(empty(desk))
         yield from report.judged(contracts(desk))
+        yield from report.judged(deals_to_try(desk))
+        yield from report.judged(framed(desk))
         yield from report.judged(mends(desk))
         yield from report.judged(rare(desk))
         yield from report.judged(secret(desk))

@@ -1,11 +1,13 @@
 """The page as a program for a web server."""
 
-from flask import Flask, Response
+from urllib.parse import urlencode
+
+from flask import Flask, Response, request
 from werkzeug.exceptions import HTTPException
 
-from . import checking, counting, lesson, searching, tonight
+from . import checking, counting, fields, lesson, searching, tonight
 from .desk import Desk, Refused, checked, page
-from .guard import Guard
+from .guard import FAULT_POLICY, Guard
 from .limits import BODY
 from .nights import Nights
 from .runs import Busy, Left, Missing, Runner, TooLarge, TooLong
@@ -16,10 +18,28 @@ from .words import DEALS, Command
 FAULTS: dict[type[Exception], tuple[int, str, str]] = {
     Busy: (503, "Too much at once", "Other pages keep this machine busy. Wait a few seconds, and try again."),
     Missing: (503, "A program is missing", "Install the package of this name, and start deals-desk anew."),
-    TooLong: (504, "This takes longer than a page can wait", "Rare hands are for the page of long searches."),
+    TooLong: (504, "This takes longer than a page can wait", "Ask for less. Rare hands are for the page Long search."),
     TooLarge: (413, "This is more than a page can hold", "Ask for fewer boards, or run the command yourself."),
     Left: (503, "Nobody waited", "The browser left before the boards were there."),
 }
+
+
+# What a long search takes over of a page that can't wait.
+SEARCHED = ("where", "seed", *fields.SEATS)
+
+
+def long_search() -> str:
+    """The address of a long search for what is asked; nothing where no condition is."""
+    given = {name: request.args[name] for name in SEARCHED if request.args.get(name)}
+    return f"/search?{urlencode(given)}" if "where" in given else ""
+
+
+def fault(template: str, status: int, **values: object) -> Response:
+    """The page of a fault. One in a frame, as browsers tell, is without what the page around it has."""
+    is_framed = request.headers.get("Sec-Fetch-Dest") == "iframe"
+    response = page(template, status, is_fault=True, is_framed=is_framed, **values)
+    response.headers["Content-Security-Policy"] = FAULT_POLICY
+    return response
 
 
 def say_faults(app: Flask) -> None:
@@ -27,19 +47,20 @@ def say_faults(app: Flask) -> None:
 
     @app.errorhandler(HTTPException)
     def told(error: HTTPException) -> Response:
-        return page("fault.html", error.code or 500, title=error.name, advice=error.description or "", what="")
+        return fault("fault.html", error.code or 500, title=error.name, advice=error.description or "", what="")
 
     @app.errorhandler(Refused)
     def refused(error: Refused) -> Response:
-        return page("refused.html", 422, answer=error.answer)
+        return fault("refused.html", 422, answer=error.answer)
 
     @app.errorhandler(Exception)
     def failed(error: Exception) -> Response:
         for kind, (status, title, advice) in FAULTS.items():
             if isinstance(error, kind):
-                return page("fault.html", status, title=title, advice=advice, what=str(error))
+                on = long_search() if kind is TooLong else ""
+                return fault("fault.html", status, title=title, advice=advice, what=str(error), long_search=on)
         app.logger.error("a page failed: %s", type(error).__name__)
-        return page("fault.html", 500, title="This page failed", advice="Go back, and try something else.", what="")
+        return fault("fault.html", 500, title="This page failed", advice="Go back, and try something else.", what="")
 
 
 def create(runner: Runner, guard: Guard) -> Flask:

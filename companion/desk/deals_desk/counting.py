@@ -15,6 +15,13 @@ STYLES = {
 }
 
 
+def accepted(form: dict[str, str]) -> None:
+    """Refuses what is to be refused before anything is counted."""
+    bounded(form, "count")
+    checked(words.check_range(form), form)
+    checked(words.check_count(form), form)
+
+
 def asked() -> dict[str, str]:
     return words.asked_for(fields.COUNT, request.args, "count")
 
@@ -26,8 +33,7 @@ def count() -> Response:
     is_asked = "candidates" in request.args
     if is_asked:
         try:
-            bounded(form, "count")
-            checked(words.check_count(form), form)
+            accepted(form)
         except Refused as refused:
             answer = refused.answer
     return page(

@@ -30,6 +30,7 @@ def start() -> AnyResponse:
     form = asked(request.form)
     try:
         bounded(form, "search")
+        checked(words.check_range(form), form)
         checked(words.check(form), form)
     except Refused as refused:
         return shown(form, refused)

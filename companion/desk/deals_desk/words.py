@@ -131,6 +131,15 @@ def check_count(form: Form) -> Command:
     return Command(((DEALS, "count", *words_of({**form, "candidates": "1"}, fields.COUNT)),)).hinted()
 
 
+# A condition that no deal meets, so that a search for it is over at once, however many deals it has.
+NEVER = "1==2"
+
+
+def check_range(form: Form) -> Command:
+    """What tells at once whether the deals to be tried are refused, which `check` doesn't try."""
+    return Command((find({**form, "where": NEVER, "boards": "", **dict.fromkeys(fields.SEATS, "")}),)).hinted()
+
+
 def rarity(where: str, candidates: int) -> Command:
     """How many of the first deals of a seed meet a condition."""
     words = [word("--where", where)] if where else []
