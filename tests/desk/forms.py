@@ -1,6 +1,7 @@
 """What forms become: words, in the place of forms and servers; and what is read from the answers of `deals`."""
 
 import subprocess
+import tempfile
 
 import board_formats
 import harness
@@ -8,7 +9,7 @@ import packages
 import report
 import serving
 import tables
-from deals_desk import answers, fields, files, words
+from deals_desk import answers, fields, files, searches, words
 
 WHERE = "hcp(north) in 15-17 and balanced(north)"
 
@@ -80,6 +81,29 @@ def possible():
             yield f"{expected} | {text}", has_none or bool(answers.could_stand(f"  expected {expected}\n"))
 
 
+# How a search ended: its status, what it said, and its boards of four; what is told of it, and whether it goes on.
+ENDS = [
+    (0, "", 0, "all is searched", True),
+    (0, "", 4, "it has ended", True),
+    (0, " 50% 500 of 1,000 candidates, 4 boards\n", 4, "50% 500 of 1,000 candidates, 4 boards", True),
+    (1, "", 0, "nothing is searched", False),
+    (1, 2 * " 50% 500 of 1,000 candidates, 4 boards\n", 0, "50% 500 of 1,000 candidates, 4 boards", True),
+]
+
+
+def searched():
+    """What is told of a search that ended: that all is searched only if it ended well."""
+    form = {"boards": "4", "first": "0", "candidates": "1000"}
+    for status, said, boards, told, has_more in ENDS:
+        with tempfile.TemporaryFile() as file:
+            process = subprocess.Popen(["sh", "-c", f"exit {status}"])
+            process.wait()
+            file.write(said.encode())
+            file.flush()
+            search = searches.Search(form, words.search(form), process, file, 0, 0, list(range(boards)), 1)
+            yield f"a search: {told}", (search.progress(), search.has_more) == (told, has_more)
+
+
 def listed():
     """Each format that a file has is one of `deals`."""
     for file in files.FILES:
@@ -100,5 +124,5 @@ def typed():
 
 def words_of_forms():
     yield "types", typed()
-    for part in (told, marked, named, possible, listed):
+    for part in (told, marked, named, possible, searched, listed):
         yield from report.judged(part())

@@ -65,6 +65,16 @@ def empty(desk):
         yield f"tidy, {path} without {name}", not tidied(answer.text)
 
 
+def boards(desk):
+    """A number of boards that is refused is told in the page's own bounds."""
+    for number in ("0", "-3", "1e3", "x"):
+        form = {"seed": "7", "boards": number, "first_board": "1"}
+        for ask, path in ((desk.get, "/lesson"), (desk.get, "/lesson/pbn"), (desk.post, "/search"), (desk.post, "/tonight/pbn")):
+            answer = ask(path, form)
+            told = answer.text.partition('id="boards-refusal"')[2].partition("</div>")[0]
+            yield f"{path}, {number} boards", answer.status == 422 and "say how many boards, 1 to 1000" in told and "--" not in told
+
+
 # Numbers of deals that are refused, with what is said of them.
 DEALS_TO_TRY = [
     ("1e6", "write digits alone"), ("10000000000000", "0 to 1099511627776"), ("1,000", "write digits alone"), ("-3", "a whole number"),
@@ -79,6 +89,8 @@ def deals_to_try(desk):
             answer = ask(path, form)
             told = answer.text.partition('id="candidates-refusal"')[2].partition("</div>")[0]
             yield f"{path}, {number}", answer.status == 422 and said in told and "<iframe" not in answer.text
+    answer = desk.post("/search", {"seed": "7", "candidates": "", "boards": "1", "where": "hcp(north)>=20"})
+    yield "all deals", answer.status == 303
     answer = desk.get("/count", {"seed": "7", "candidates": "10", "of": "nord"})
     yield "a fault of another field", 'id="of-refusal"' in answer.text
     answer = desk.post("/search", {"seed": "7", "first": "1099511627776", "candidates": "4", "boards": "1"})
@@ -224,6 +236,7 @@ def pages():
         yield from checked(desk)
         yield from report.judged(empty(desk))
         yield from report.judged(contracts(desk))
+        yield from report.judged(boards(desk))
         yield from report.judged(deals_to_try(desk))
         yield from report.judged(framed(desk))
         yield from report.judged(mends(desk))

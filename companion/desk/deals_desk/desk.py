@@ -44,7 +44,7 @@ class Refused(Exception):
 
 
 def number(text: str) -> int:
-    """The number of a text, also where it has a sign; 0 for what is none, which `deals` refuses."""
+    """The number of a text, also where it has a sign; 0 for what is none."""
     try:
         return int(text)
     except ValueError:
@@ -52,10 +52,14 @@ def number(text: str) -> int:
 
 
 def bounded(form: words.Form, page: str) -> None:
-    """Refuses more boards than a page may have, which `deals` itself would write, and what is empty and may not be."""
+    """Refuses other numbers of boards than a page may have, which `deals` itself would write or tell the bounds of, and
+    what is empty and may not be."""
     most = desk().runner.limits.boards
-    if number(form.get("boards", "")) > most:
+    boards = form.get("boards", "")
+    if number(boards) > most:
         raise Refused(answers.Answer("boards", f"at most {most} boards on a page"))
+    if boards and number(boards) < 1:
+        raise Refused(answers.Answer("boards", fields.BOARDS_NEEDED.format(most=most)))
     for name, needed in fields.NEEDED[page].items():
         if not form[name]:
             raise Refused(answers.Answer(name, needed.format(most=most)))

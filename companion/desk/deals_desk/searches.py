@@ -52,12 +52,18 @@ class Search:
         begin = max(0, os.fstat(self.said.fileno()).st_size - MOST_SAID)
         return os.pread(self.said.fileno(), MOST_SAID, begin).decode("utf-8", "replace").replace("\r", "\n")
 
+    @property
+    def has_failed(self) -> bool:
+        return not self.is_running and not self.stopped and self.status != 0
+
     def progress(self) -> str:
-        """The last line of progress; nothing where all is searched."""
+        """The last line of progress, or what there is to say in its place."""
         if self.is_whole:
-            return ""
+            return "all is searched"
         found = [match[0].strip() for match in PROGRESS.finditer(self.lines())]
-        return found[-1] if found else ""
+        if found:
+            return found[-1]
+        return "it has begun" if self.is_running else "nothing is searched" if self.has_failed else "it has ended"
 
     def searched(self) -> int:
         """How many candidates are searched for sure: as the line before the last one told, since the numbers of the
@@ -75,7 +81,9 @@ class Search:
 
     @property
     def has_more(self) -> bool:
-        """Whether deals are left to be searched."""
+        """Whether deals are left to be searched, by a search that didn't fail at once."""
+        if self.has_failed:
+            return self.goes_on_at() > int(self.form["first"] or 0)
         return not self.is_whole or self.form["candidates"] != ""
 
     def stop(self) -> None:

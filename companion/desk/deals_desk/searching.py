@@ -53,7 +53,7 @@ def state(found: Search) -> dict[str, object]:
         "found": len(found.numbers),
         "wanted": found.form["boards"],
         "stopped": found.stopped,
-        "said": "" if found.is_running or found.stopped or found.status == 0 else found.lines().strip(),
+        "said": found.lines().strip() if found.has_failed else "",
     }
 
 

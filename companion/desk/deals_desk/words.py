@@ -137,7 +137,7 @@ NEVER = "1==2"
 
 def check_range(form: Form) -> Command:
     """What tells at once whether the deals to be tried are refused, which `check` doesn't try."""
-    return Command((find({**form, "where": NEVER, "boards": "", **dict.fromkeys(fields.SEATS, "")}),)).hinted()
+    return Command((find({**form, "where": NEVER, **dict.fromkeys(fields.SEATS, "")}),)).hinted()
 
 
 def rarity(where: str, candidates: int) -> Command:
