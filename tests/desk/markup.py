@@ -193,6 +193,19 @@ def secret(desk):
     yield "they go on, by another seed", 'value="28"' in next_page and f'value="{seed}"' not in next_page
 
 
+def opened(desk):
+    """The address of a form that was refused leads back to its page when it is opened anew, and acts nothing."""
+    own = {"Cookie": desk.get("/").headers["Set-Cookie"].partition(";")[0]}
+    night = values(desk.get("/", headers=own).text)
+    for path in ("/tonight", "/tonight/more", "/tonight/new", "/tonight/back", "/tonight/pbn", "/tonight/sheet"):
+        answer = desk.get(path, headers=own)
+        yield f"{path} opened anew", answer.status == 303 and answer.headers["Location"] == "/"
+    yield "the night is as it was", values(desk.get("/", headers=own).text) == night
+    yield "no such address", desk.get("/tonight/nothing").status == 404
+    key = desk.post("/search", {"where": "hcp(north)>=30", "boards": "1", "candidates": "10"}).headers["Location"]
+    yield "a stop opened anew", desk.get(f"{key}/stop").headers.get("Location") == key
+
+
 def values(page):
     """What the form of tonight has on a page."""
     return {name: html.unescape(value) for name, value in re.findall(r'name="(\w+)" value="([^"]*)" maxlength', page)}
@@ -242,4 +255,5 @@ def pages():
         yield from report.judged(mends(desk))
         yield from report.judged(rare(desk))
         yield from report.judged(secret(desk))
+        yield from report.judged(opened(desk))
         yield from report.judged(parts(desk))

@@ -74,6 +74,12 @@ def told(key: str) -> Response:
     return jsonify(state(running(key)))
 
 
+@pages.get("/search/<key>/stop")
+def opened(key: str) -> AnyResponse:
+    """The address of a stop that is opened anew leads to the search."""
+    return redirect(f"/search/{key}", 303)
+
+
 @pages.post("/search/<key>/stop")
 def stop(key: str) -> AnyResponse:
     running(key).stop()

@@ -12,6 +12,9 @@ from .words import DEALS, TRICKS, Command
 
 pages = Blueprint("tonight", __name__)
 
+# What a form of this page may do besides giving a file.
+ACTS = ("new", "more", "back", "lines")
+
 
 def drawn() -> str:
     """A seed that nobody can guess."""
@@ -103,6 +106,15 @@ def back() -> AnyResponse:
 def typed() -> Response:
     """The commands of what the form says now."""
     return jsonify(lines(offered(files.TONIGHT), posted()))
+
+
+@pages.get("/tonight", defaults={"name": ""})
+@pages.get("/tonight/<name>")
+def opened(name: str) -> AnyResponse:
+    """An act's address that is opened anew, as after a refusal: it leads to the page."""
+    if name and name not in (*ACTS, *files.TONIGHT):
+        abort(404)
+    return redirect("/", 303)
 
 
 @pages.post("/tonight/<name>")
