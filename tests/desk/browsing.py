@@ -284,6 +284,27 @@ def mistake(window, desk):
     yield "a word is put in", window.find("[name=where]").get_attribute("value").startswith("len(north,")
 
 
+def back(window, desk):
+    """A wrong text that Back brings again is marked again, and one that was mended is not."""
+    window.go(f"{desk.address}/lesson")
+    for text, is_wrong in (("hcp(nord)>=15", True), ("hcp(north)>=20", False)):
+        window.write("where", text)
+        window.write("boards", "1")
+        window.press("Deal")
+        window.until(lambda: "boards=1" in window.driver.current_url, "the answer")
+        window.until(lambda is_wrong=is_wrong: bool(window.all(".refusal" if is_wrong else "iframe")), "the refusal or the boards")
+        window.driver.back()
+        window.until(lambda text=text: window.find("[name=where]").get_attribute("value") == text, "what was typed")
+        if is_wrong:
+            window.until(lambda: window.find(".refusal .mend").is_displayed(), "the refusal after Back")
+            yield "Back: the fault is marked", window.find(".marks mark").get_attribute("textContent") == "nord"
+        else:
+            window.driver.implicitly_wait(0)
+            window.until(lambda: not window.all(".refusal"), "no refusal after Back")
+            window.driver.implicitly_wait(5)
+            yield "Back: nothing is marked", not window.find(".marks").get_attribute("textContent")
+
+
 def hands(window, desk):
     window.go(f"{desk.address}/lesson")
     window.driver.find_element("xpath", "//summary[.='Cards that a seat has']").click()
@@ -369,7 +390,7 @@ def by_keyboard(window, desk):
     window.until(lambda: "Stopped" in window.find("[role=status]").text, "the end")
 
 
-WAYS = (tonight, sheet, lesson, handout, one_hand, two_tabs, mistake, hands, counted, searched, contracts, by_keyboard)
+WAYS = (tonight, sheet, lesson, handout, one_hand, two_tabs, mistake, back, hands, counted, searched, contracts, by_keyboard)
 
 
 # The ways that need no scripts; a mistake is told without them too, when the form is sent.

@@ -112,7 +112,7 @@ function watchText(area) {
   const line = area.name === "where" ? area.form.querySelector("[data-rarity]") : null;
   const check = latest((text) => ask("/check/" + area.dataset.check, {text}));
   const count = latest((text) => ask("/rarity", {text}));
-  let typing = 0, resting = 0;
+  let typing = 0, resting = 0, checked = "";
   const rest = async () => {
     const rare = area.value.trim() ? await count(area.value).catch(() => null) : null;
     if (rare === undefined) return;
@@ -120,7 +120,7 @@ function watchText(area) {
     if (rare) line.textContent = told(rare, Number(area.form.elements.boards?.value));
   };
   const typed = async () => {
-    const text = area.value;
+    const text = checked = area.value;
     const answer = await check(text).catch(() => undefined);
     if (answer === undefined || text !== area.value) return;
     // Places are told in the text without the blanks before it.
@@ -138,6 +138,8 @@ function watchText(area) {
   });
   area.addEventListener("scroll", () => { area.previousElementSibling.scrollTop = area.scrollTop; });
   if (area.value) typed();
+  // By Back a browser puts in what was typed after this has run.
+  window.addEventListener("pageshow", () => { if (area.value !== checked) typed(); });
 }
 
 function watchCopy(copy) {
