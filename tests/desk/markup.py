@@ -5,6 +5,7 @@ import json
 import pathlib
 import re
 import subprocess
+import time
 
 import harness
 import packages
@@ -220,13 +221,13 @@ def parts(desk):
     page = desk.get("/", headers=own).text
     second = values(page)
     yield "tidy, another part", not tidied(page)
-    yield "the part is there", page.count("Boards 1 to 24: ") == 1 and f"<p>Seed {first['seed']}</p>" in page
+    yield "the part is there", page.count("Boards 1 to 24, A &amp; B: ") == 1 and f"<p>Seed {first['seed']}</p>" in page
     (name,) = re.findall(r'name="part" value="([^"]+)"', page)
     back = desk.post("/tonight/back", {**second, "part": name}, headers=own)
     page = desk.get("/", headers=own).text
     is_secret = back.headers["Location"] == "/" and first["seed"] not in back.headers["Set-Cookie"] + name
     yield "back to the part", back.status == 303 and is_secret and values(page) == first
-    yield "the other one stays", f"<p>Seed {second['seed']}</p>" in page and page.count("Boards 25 to 27: ") == 1
+    yield "the other one stays", f"<p>Seed {second['seed']}</p>" in page and page.count("Boards 25 to 27, A &amp; B: ") == 1
     desk.post("/tonight/back", {**first, "part": name}, headers=own)
     yield "no such part", values(desk.get("/", headers=own).text) == first
     yield "a fault first", desk.post("/tonight/back", {**first, "boards": "x", "part": name}, headers=own).status == 422
@@ -243,6 +244,20 @@ def parts(desk):
     yield "nobody else's", "Other boards" not in desk.get("/").text
 
 
+def alike(desk):
+    """Parts of the same boards and event, as two tabs leave them, are told apart by when their seeds came."""
+    own = {"Cookie": desk.get("/").headers["Set-Cookie"].partition(";")[0]}
+    night = values(desk.get("/", headers=own).text)
+    time.sleep(1.1)
+    desk.post("/tonight/new", night, headers=own)
+    for part in (night, {**night, "seed": "3", "event": "Juniors"}, {**night, "seed": "4", "event": ""}):
+        desk.post("/tonight/more", part, headers=own)
+    names = re.findall(r"<summary>Boards (1 to 27.*): show or hide", desk.get("/", headers=own).text)
+    timed = [name for name in names if re.fullmatch(r"1 to 27, Club night, seed of \d\d:\d\d:\d\d", name)]
+    yield f"parts are called {names}", len(names) == len(set(names)) == 4 and len(timed) == 2
+    yield "others by their event alone", {"1 to 27, Juniors", "1 to 27"} <= set(names)
+
+
 def pages():
     serving.need()
     with serving.desk() as desk:
@@ -257,3 +272,4 @@ def pages():
         yield from report.judged(secret(desk))
         yield from report.judged(opened(desk))
         yield from report.judged(parts(desk))
+        yield from report.judged(alike(desk))

@@ -26,7 +26,7 @@ def shown(night: Night, refused: Refused | None = None) -> Response:
     parts = desk().nights.parts(request.cookies.get(COOKIE))
     return page(
         "tonight.html", 422 if refused else 200, form=night, answer=answer, files=offered(files.TONIGHT),
-        lines=lines(offered(files.TONIGHT), night), has_solver=desk().runner.has(TRICKS), parts=parts, last_board=nights.last_board,
+        lines=lines(offered(files.TONIGHT), night), has_solver=desk().runner.has(TRICKS), parts=parts, called=desk().nights.called(request.cookies.get(COOKIE)),
     )
 
 
