@@ -158,6 +158,26 @@ MENDS = [
 ]
 
 
+# A text, and the hint below it, which says nothing of a shell.
+HINTS = [
+    ("of", "hcp", "hint: say whose, as in hcp(north)"),
+    ("of", "longest", "hint: say whose, as in longest(north)"),
+    ("where", "\u201chcp(north)>=15\u201d", "hint: leave the quotes out"),
+    ("where", "@file", "hint: the text itself goes here"),
+    ("where", "./file.cond", "hint: the text itself goes here"),
+    ("where", "$(cat file)", "hint: the text itself goes here"),
+]
+
+
+def hints(desk):
+    """Hints are for who writes on a page."""
+    for name, text, hint in HINTS:
+        answer = json.loads(desk.post(f"/check/{name}", {"text": text}).text)
+        yield f"hint: {text}", hint in answer["text"].splitlines() and "shell" not in json.dumps(answer)
+    page = desk.get("/count", {"seed": "7", "candidates": "10", "of": "hcp"}).text
+    yield "on the page too", "hint: say whose, as in hcp(north)\n" in page.replace("<", "\n")
+
+
 def mends(desk):
     """A button writes what a hint surely means: the word in the marked place, or the whole of a text that is one test."""
     for text, mended in MENDS:
@@ -268,6 +288,7 @@ def pages():
         yield from report.judged(deals_to_try(desk))
         yield from report.judged(framed(desk))
         yield from report.judged(mends(desk))
+        yield from report.judged(hints(desk))
         yield from report.judged(rare(desk))
         yield from report.judged(secret(desk))
         yield from report.judged(opened(desk))

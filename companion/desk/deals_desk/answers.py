@@ -25,6 +25,13 @@ HINT = re.compile(r"^  hint: (.*)$", re.MULTILINE)
 BY_PBN = 'PBN has ASCII letters alone there, without " and \\. Sheets, slips and pages have all letters.'
 # Lines that help only who types commands.
 OF_A_SHELL = ("Usage: ", "For more information, try ")
+# What hints say of a shell, which reads nothing of what is written on a page, and what they say there.
+ON_A_PAGE = (
+    (re.compile(r"say whose, in quotes, as in '(.*)': the shell takes \( and > for itself"), r"say whose, as in \1"),
+    (re.compile(r"in the shell write plain quotes, .* around the whole condition"), "leave the quotes out"),
+    (re.compile(r'the text itself goes here; from a file: "\$\(cat FILE\)"'), "the text itself goes here"),
+    (re.compile(r'the shell reads a file in double quotes alone: "\$\(cat FILE\)"'), "the text itself goes here"),
+)
 # A hint that puts one word or sign in the place of the marked one. One with brackets is for more than what is marked.
 WRITE_WORD = re.compile(r'^write "(\w+|[^\w\s"()\[\]{}]+)"$')
 # A hint that has a whole condition.
@@ -134,8 +141,16 @@ def by_pbn(answer: Answer) -> Answer:
     return dataclasses.replace(answer, line=f"{answer.line}: {BY_PBN}", excerpt="", text=hints)
 
 
-def read(said: str, form: dict[str, str]) -> Answer:
+def on_a_page(said: str) -> str:
+    """What is said, without what only a shell needs."""
+    for pattern, words in ON_A_PAGE:
+        said = pattern.sub(words, said)
+    return said
+
+
+def read(told_all: str, form: dict[str, str]) -> Answer:
     """What is said of a form."""
+    said = on_a_page(told_all)
     lines = said.rstrip().splitlines() or ["no reason was given"]
     line = lines[0]
     field = field_of(line)
