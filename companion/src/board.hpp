@@ -4,11 +4,17 @@
 
 #include <cstdint>
 #include <optional>
+#include <set>
 #include <string>
 
 #include <dds/dll.h>
 
 enum class Form { pbn, json };
+
+// Some bytes of a text.
+struct Place {
+    size_t at, length;
+};
 
 struct Board {
     Form form = Form::pbn;
@@ -20,9 +26,12 @@ struct Board {
     std::optional<int> dealer, vulnerable;
     // The number of the candidate, if the board has one.
     std::optional<uint64_t> number;
-    // Where in the text tricks would be added, and whether it has some.
+    // Where in the text tricks would be added, and whether it has some that can be read.
     size_t add_at = 0;
     bool has_tricks = false;
+    // In PBN: the tags of tricks and par that it has, and where the tricks are that can't be read.
+    std::set<std::string> tags;
+    std::optional<Place> unread;
 };
 
 // The cards of a Deal value, all four hands of it (PBN 2.1, section 3.4.11).

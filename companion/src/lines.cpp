@@ -44,20 +44,39 @@ std::string json_names(const ddTableResults &table, const std::optional<ParScore
     return par ? names + ",\"par\":\"" + text_of(*par) + '"' : names;
 }
 
-// The tags, each on a line of its own after another.
-std::string pbn_tags(const ddTableResults &table, const std::optional<ParScore> &par, const std::string &end) {
-    std::string tags = end + "[DoubleDummyTricks \"" + digits_of(table) + "\"]";
+// The tags that a board doesn't have, each on a line of its own after another.
+std::string pbn_tags(const Board &board, const ddTableResults &table, const std::string &end) {
+    std::string tags;
+    const auto add = [&](const char *name, const std::string &value) {
+        const bool is_new = !board.tags.count(name);
+        if (is_new)
+            tags += end + '[' + name + " \"" + value + "\"]";
+        return is_new;
+    };
+    add("DoubleDummyTricks", digits_of(table));
+    const auto par = par_of(board, table);
     if (par)
-        tags += end + "[OptimumScore \"" + score_of(*par) + "\"]";
+        add("OptimumScore", score_of(*par));
     if (par && !par->contracts.empty())
-        tags += end + "[ParContract \"" + par->contracts + "\"]";
-    return tags + end + "[OptimumResultTable \"Declarer;Denomination\\2R;Result\\2R\"]" + rows_of(table, end);
+        add("ParContract", par->contracts);
+    if (add("OptimumResultTable", "Declarer;Denomination\\2R;Result\\2R"))
+        tags += rows_of(table, end);
+    return tags;
 }
 
 // The end of a line that begins at a place, with what is before it there; a line feed where the input ends.
 std::string end_of_line(const std::string &text, size_t at) {
     const size_t feed = text.find('\n', at);
     return feed != std::string::npos && feed > 0 && text[feed - 1] == '\r' ? "\r\n" : "\n";
+}
+
+// Adds the tags after the deal. What follows on the deal's line gets a line of its own.
+void add_tags(std::string &text, const Board &board, const ddTableResults &table) {
+    const std::string end = end_of_line(text, board.add_at), tags = pbn_tags(board, table, end);
+    const size_t next = text.find_first_not_of(" \t\r", board.add_at);
+    const bool is_followed = next != std::string::npos && text[next] != '\n';
+    if (!tags.empty())
+        text.insert(board.add_at, tags + (is_followed ? end : ""));
 }
 
 } // namespace
@@ -72,13 +91,19 @@ std::string with_tricks(const Board &board, Solver &solver) {
     if (board.has_tricks)
         return board.text;
     const ddTableResults table = solver.table();
-    const auto par = par_of(board, table);
     std::string text = board.text;
     if (board.form == Form::json)
-        return text.insert(board.add_at, json_names(table, par));
-    const std::string end = end_of_line(text, board.add_at);
-    const size_t next = text.find_first_not_of(" \t\r", board.add_at);
-    // What follows on the deal's line gets a line of its own.
-    const bool is_followed = next != std::string::npos && text[next] != '\n';
-    return text.insert(board.add_at, pbn_tags(table, par, end) + (is_followed ? end : ""));
+        return text.insert(board.add_at, json_names(table, par_of(board, table)));
+    const auto fill = [&] {
+        if (board.unread)
+            text.replace(board.unread->at, board.unread->length, digits_of(table));
+    };
+    // What comes first in the text is changed last, so that the other's place stays.
+    const bool is_before = board.unread && board.unread->at < board.add_at;
+    if (!is_before)
+        fill();
+    add_tags(text, board, table);
+    if (is_before)
+        fill();
+    return text;
 }

@@ -9,6 +9,8 @@ constexpr const char *BLANKS = " \t\r\n";
 // A board's number that is longer isn't told.
 constexpr size_t MOST_DIGITS = 13;
 const std::set<std::string> TAGS_OF_TRICKS = {"DoubleDummyTricks", "OptimumScore", "ParContract", "OptimumResultTable"};
+// A digit for each declarer and strain.
+constexpr size_t TRICKS = 20;
 
 // Whether the first bytes of a text are blanks alone.
 bool is_blank(const std::string &text, size_t length) {
@@ -18,6 +20,11 @@ bool is_blank(const std::string &text, size_t length) {
 // Whether something follows a carriage return, as in a text whose lines end with these alone.
 bool has_lines(const std::string &line) {
     return line.find_first_not_of(BLANKS, line.find('\r')) != std::string::npos;
+}
+
+// Whether tricks can be read, as `deals show` does.
+bool are_tricks(const std::string &value) {
+    return value.size() == TRICKS && value.find_first_not_of("0123456789abcdABCD") == std::string::npos;
 }
 
 // The quote that ends a value. A backslash takes away what the sign after it means.
@@ -33,7 +40,7 @@ size_t end_of_value(const std::string &line, size_t at) {
 PbnReader::Tag PbnReader::tag_at(const std::string &line, size_t at) {
     const size_t name = std::min(line.find_first_not_of(BLANKS, at + 1), line.size());
     const size_t stop = std::min(line.find_first_of(" \t\r\n\"", name), line.size());
-    Tag tag{line.substr(name, stop - name), "", at, at + 1, false};
+    Tag tag{line.substr(name, stop - name), "", at, at + 1, at + 1, false};
     const size_t quote = line.find_first_not_of(BLANKS, stop);
     if (quote == std::string::npos || line[quote] != '"')
         return tag;
@@ -42,6 +49,7 @@ PbnReader::Tag PbnReader::tag_at(const std::string &line, size_t at) {
         return tag;
     const size_t bracket = line.find_first_not_of(BLANKS, end + 1);
     tag.value = line.substr(quote + 1, end - quote - 1);
+    tag.value_at = quote + 1;
     tag.end = bracket != std::string::npos && line[bracket] == ']' ? bracket + 1 : end + 1;
     tag.is_whole = !tag.name.empty();
     return tag;
@@ -148,7 +156,8 @@ void PbnReader::take(const Tag &tag, const std::string &line) {
         board.vulnerable = read_vulnerable(tag.value);
     if (tag.name == "Deal")
         take_deal(tag);
-    board.has_tricks = board.has_tricks || TAGS_OF_TRICKS.count(tag.name);
+    if (TAGS_OF_TRICKS.count(tag.name))
+        take_tricks(tag);
     // With all that par needs, tricks need not wait for the end of the game.
     if (wanted == Wanted::tricks && board.cards && board.dealer && board.vulnerable)
         hand_on();
@@ -160,6 +169,16 @@ void PbnReader::take_deal(const Tag &tag) {
         throw deal_failure();
     board.add_at = board.text.size() + tag.end - kept;
     had_deal = true;
+}
+
+// The value of a tag without tricks is kept in mind, since tricks are put there: a game has each tag once.
+void PbnReader::take_tricks(const Tag &tag) {
+    board.tags.insert(tag.name);
+    if (tag.name != "DoubleDummyTricks")
+        return;
+    board.has_tricks = are_tricks(tag.value);
+    if (!board.has_tricks)
+        board.unread = Place{board.text.size() + tag.value_at - kept, tag.value.size()};
 }
 
 // A tag that the game has already is the next game's first; a game may have several notes.

@@ -22,8 +22,8 @@ public:
 private:
     struct Tag {
         std::string name, value;
-        // Where it begins in its line, and where what comes after it does.
-        size_t begin, end;
+        // Where it begins in its line, its value does, and what comes after it.
+        size_t begin, value_at, end;
         bool is_whole;
     };
 
@@ -36,6 +36,7 @@ private:
     size_t read_tag(const std::string &line, size_t at);
     void take(const Tag &tag, const std::string &line);
     void take_deal(const Tag &tag);
+    void take_tricks(const Tag &tag);
     Failure deal_failure() const;
     void begin_game(const Tag &tag, const std::string &line);
     void keep(const std::string &line, size_t end);

@@ -154,8 +154,31 @@ def added():
     yield "JSON", told == {**json.loads(LINES[0]), "tricks": digits, "par": par}
     had = LINES[0].replace(b"}", b',"tricks":"-"}')
     yield "JSON that has tricks", said(kept(had, "--add")) == (0, had, "")
-    had = GAMES[0][:-1] + b'[OptimumScore "NS 0"]\n\n'
-    yield "PBN that has par", said(kept(had, "--add")) == (0, had, "")
+    yield from missing(tags)
+
+
+def missing(tags):
+    """Tricks that can't be read are put in, with the tags that a game doesn't have; each other tag stays as it is."""
+    game, (trick_tag, score_tag, contract_tag, *_) = GAMES[0], tags.splitlines(keepends=True)
+    table = tags[tags.index(b"[OptimumResultTable") :]
+    deal = game[game.index(b"[Deal ") :]
+    for name, had, added in [
+        ("par alone", game[:-1] + b'[OptimumScore "NS 0"]\n\n', game[:-1] + trick_tag + contract_tag + table[:-1] + b'[OptimumScore "NS 0"]\n\n'),
+        ("a table alone", game[:-1] + table, game[:-1] + trick_tag + score_tag + contract_tag + table),
+        ("no digit", game[:-1] + b'[DoubleDummyTricks ""]\n\n', game[:-1] + tags[len(trick_tag) : -1] + trick_tag + b"\n"),
+        ("no tricks known", game[:-1] + b'[DoubleDummyTricks "?"]\n\n', game[:-1] + tags[len(trick_tag) : -1] + trick_tag + b"\n"),
+        ("no digit before the deal", game.replace(deal, b'[DoubleDummyTricks ""]\n' + deal),
+         game.replace(deal, trick_tag + deal[:-1] + tags[len(trick_tag) :])),
+        ("all but its digits", game[:-1] + b'[DoubleDummyTricks ""] { x }\n' + tags[len(trick_tag) :],
+         game[:-1] + trick_tag[:-1] + b" { x }\n" + tags[len(trick_tag) :]),
+    ]:
+        run = said(kept(HEAD + had + GAMES[1], "--add", "--boards", "1"))
+        yield f"PBN that has {name}", run == (0, HEAD + added, "")
+        shown = harness.deals("show", "--format=json", given=run[1]).stdout
+        digits = re.search(rb'"([^"]*)"', trick_tag)[1]
+        yield f"show reads it, {name}", json.loads(shown)["tricks"].encode() == digits
+        yield f"again, {name}", said(kept(run[1], "--add")) == run
+    yield "PBN that has tricks", said(kept(game[:-1] + trick_tag + b"\n", "--add")) == (0, game[:-1] + trick_tag + b"\n", "")
 
 
 def refused_words():
