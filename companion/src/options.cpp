@@ -52,7 +52,15 @@ Failure refusal(const std::string &what, const std::string &advice) {
 Rule rule_of(const char *name, std::optional<Rule> rule, const char *form) {
     if (!rule)
         throw refusal(std::string("--") + name + " " + optarg + ": can't be read", form);
+    rule->told = std::string("--") + name + " " + optarg;
     return std::move(*rule);
+}
+
+void check_together(const std::vector<Rule> &rules) {
+    for (const Rule &one : rules)
+        for (const Rule &other : rules)
+            if (exclude(one, other))
+                throw refusal(one.told + " and " + other.told + ": no board meets both", "leave one of them out");
 }
 
 size_t boards_of(const std::string &text) {
@@ -98,6 +106,7 @@ std::optional<Options> read_options(int count, char **words) {
         }
         take(code, options);
     }
+    check_together(options.rules);
     if (optind < count)
         throw refusal(std::string(words[optind]) + ": no option",
                       "boards come from its input: for those of a file write deals-tricks < FILE");

@@ -42,6 +42,14 @@ std::optional<Rule> read_tricks(const std::string &text) {
     return Rule{STRAIN_WORDS.at(part[1]), DECLARER_WORDS.at(part[2]), least, most, false};
 }
 
+bool exclude(const Rule &one, const Rule &other) {
+    const auto is_of_other = [&](int declarer) {
+        return std::count(other.declarers.begin(), other.declarers.end(), declarer) > 0;
+    };
+    return !one.is_each && other.is_each && one.strain == other.strain && one.least > other.most &&
+           std::all_of(one.declarers.begin(), one.declarers.end(), is_of_other);
+}
+
 bool meets(const Rule &rule, Solver &solver) {
     const auto is_met = [&](int declarer) {
         return solver.takes(rule.strain, declarer, rule.least) && !solver.takes(rule.strain, declarer, rule.most + 1);

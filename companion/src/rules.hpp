@@ -14,6 +14,8 @@ struct Rule {
     std::vector<int> declarers;
     int least, most;
     bool is_each;
+    // The words that it was written in.
+    std::string told = "";
 };
 
 // How rules are written, as a person is told it.
@@ -24,5 +26,8 @@ extern const char *const TRICKS_FORM;
 std::optional<Rule> read_makes(const std::string &text);
 std::optional<Rule> read_beaten(const std::string &text);
 std::optional<Rule> read_tricks(const std::string &text);
+
+// Whether no deal can meet both: what one asks of some declarer the other excludes for each.
+bool exclude(const Rule &one, const Rule &other);
 
 bool meets(const Rule &rule, Solver &solver);

@@ -123,6 +123,8 @@ def contracts(desk):
     yield "a faulty contract", answer.status == 422 and 'id="makes-refusal"' in answer.text and "<iframe" not in answer.text
     yield "tidy, a faulty contract", not tidied(answer.text)
     yield "its file", desk.get("/lesson/pbn", {**form, "makes": "4s-ns"}).status == 422
+    answer = desk.get("/lesson", {**form, "beaten": "3NT-NS 4S-NS"})
+    yield "contracts that no board meets", answer.status == 422 and "no board meets both" in answer.text.partition('id="makes-refusal"')[2]
     for turn, is_told in (("turn", True), ("S", False)):
         page = desk.get("/lesson", {**form, "turn": turn}).text
         yield f"sides turn: {turn}", ("The sides turn with the hands" in page) == is_told and "<iframe" in page

@@ -29,7 +29,7 @@ DEALS_WORD, TRICKS_WORD = (shlex.quote(str(path)) for path in (harness.PROGRAM, 
 SECONDS = 60
 # A rule that each board meets, and costs nothing; and one that none meets.
 EACH = ["--tricks", "S-N>=0"]
-NONE = ["--beaten", "1S-N", "--makes", "1S-N"]
+NONE = ["--tricks", "S-N=0", "--tricks", "S-N=13"]
 # With the board's number, by Law 2.
 VULNERABLE = ["None", "NS", "EW", "All", "NS", "EW", "All", "None", "EW", "All", "None", "NS", "All", "None", "NS", "EW"]
 BATCH = 20
@@ -69,6 +69,10 @@ def one_batch(deals: list[str], dice: random.Random, times: int):
     for _ in range(times):
         rules = second_solver.rules(dice, strains)
         words = [word for rule in rules for word in rule.words()]
+        if second_solver.are_apart(rules):
+            run = said(kept(b"", *words))
+            yield f"refused: {words}", run[:2] == (2, b"") and "no board meets both" in run[2]
+            continue
         chosen = [index for index, table in enumerate(tables) if all(rule.is_met(table) for rule in rules)]
         boards = b"".join([HEAD, *(games[index] for index in chosen)])
         numbers = b"".join(b"%d\n" % (3 * index + 3) for index in chosen)
@@ -193,6 +197,14 @@ def refused_words():
     ]:
         text = f"{NAMES}{option} {wrong}: can't be read\n{advice}"
         yield f"{option} {wrong}", said(kept(GAMES[0], f"{option}={wrong}")) == (2, b"", text)
+    for words, is_refused in [
+        ("--makes 1S-NS --beaten 1S-NS", True), ("--beaten 3N-EW --makes 3NT-E", True), ("--makes 4S-N --beaten 3S-NS", True),
+        ("--tricks S-N>=10 --beaten 4S-NS", True), ("--makes 4S-NS --beaten 4S-N", False), ("--makes 3S-NS --beaten 4S-NS", False),
+        ("--makes 4S-NS --beaten 4S-EW", False), ("--makes 4S-NS --beaten 4H-NS", False),
+    ]:
+        run = kept(b"", *words.split(), "--numbers")
+        is_told = b"no board meets both" in run.stderr and b"leave one of them out" in run.stderr
+        yield f"together: {words}", (run.returncode, is_told) == ((2, True) if is_refused else (0, False))
     for words in (["--what"], ["--makes"], ["boards.pbn"], ["--add=1"]):
         run = kept(GAMES[0], *words)
         yield f"{words}", run.returncode == 2 and run.stdout == b"" and run.stderr.startswith(NAMES.encode())

@@ -83,6 +83,23 @@ class Rule:
         return {"=": self.number in tricks, ">=": max(tricks) >= self.number, "<=": min(tricks) <= self.number}[self.sign]
 
 
+    def least(self) -> int:
+        """The tricks that some declarer takes at the least."""
+        if self.option == "--tricks":
+            return 0 if self.sign == "<=" else self.number
+        return self.number + 6 if self.option == "--makes" else 0
+
+
+def are_apart(found: list[Rule]) -> bool:
+    """Whether one of them is beaten for all declarers of another that makes as many tricks."""
+    beaten = [rule for rule in found if rule.option == "--beaten"]
+    return any(
+        rule.strain == other.strain and set(rule.declarers) <= set(other.declarers) and rule.least() >= other.number + 6
+        for rule in found
+        for other in beaten
+    )
+
+
 def rules(dice: random.Random, strains: list[str]) -> list[Rule]:
     """One to three rules of these strains."""
     found = []
