@@ -5,6 +5,7 @@ import os
 import pathlib
 import signal
 import subprocess
+import time
 
 import companion
 import harness
@@ -102,6 +103,34 @@ def made():
         yield "others in their folder", status == 2 and "3 boards from 28 on, Club night" in said
 
 
+def days():
+    """A folder that is named doesn't give its boards on another day, unless it is named for that day; on its own day it
+    changes nothing."""
+    with harness.scratch() as folder:
+        night = Night(folder)
+        words = ("3", "Club", "night")
+        yield "an event without quotes", night.run(*words)[0] == 0
+        first = night.files()
+        status, said = night.run(*words)
+        yield "the same day", status == 0 and night.files() == first and "stays as it is" in said
+        week = time.time() - 7 * 86400
+        day = time.strftime("%Y-%m-%d", time.localtime(week))
+        os.utime(night.folder / "night" / "asked", (week, week))
+        (night.folder / "night" / "night.html").unlink()
+        before = night.files()
+        status, said = night.run(*words)
+        is_told = f"night has the night of {day}, whose boards are known" in said and 'as "Club night"' in said
+        yield "a week later", status == 2 and is_told and night.files() == before
+        (night.folder / "night").rename(night.folder / f"night-{day}")
+        status, said = night.run(*words[:2], f"night-{day}")
+        yield "in a folder of its day", status == 0 and (night.folder / f"night-{day}" / "night.html").read_bytes() == first["night.html"]
+        (night.folder / f"night-{day}").rename(night.folder / f"play-off-{day}")
+        yield "in another one of its day", night.run(*words[:2], f"play-off-{day}")[0] == 0
+        status, said = night.run(*words[:2], "night")
+        yield "a new night", status == 0 and night.files()["seed"] != first["seed"]
+        yield "too many words", night.run("3", "Club", "night", "1", "x")[0] == 2
+
+
 def letters():
     """An event of any letters is on the pages, and night.pbn has none; it stays the same night."""
     for event in ("Bridgeclub Zürich", "Łódź"):
@@ -162,5 +191,5 @@ def elsewhere():
 
 def nights():
     os.umask(0o022)
-    for part in (made, letters, stopped, without, elsewhere):
+    for part in (made, days, letters, stopped, without, elsewhere):
         yield from report.judged(part())
