@@ -1,7 +1,7 @@
 -- What helps a person with a plan, a label or a hand that is refused: a line below that of the
 -- refusal.
-use Rattle.std.specs.Prelude.{◌≡◌, ◌-◌, ◌^◌, ℕ, List, [], ◌++◌, codes, decimal, length}
-use Rattle.std.specs.Prelude.{map, nat_le, nat_lt, take, if◌then◌else◌}
+use Rattle.std.specs.Prelude.{◌≡◌, ◌-◌, ◌^◌, ℕ, List, [], ◌++◌, codes, decimal}
+use Rattle.std.specs.Prelude.{nat_lt, if◌then◌else◌}
 use Rattle.std.specs.Prelude.{Option, None, Some, false, unwrap_or}
 use Rattle.boards.specs.declared.format.Format.{Format}
 use Rattle.boards.specs.declared.format.Format.TheVariants.{Pbn}
@@ -11,7 +11,7 @@ use Rattle.requests.specs.HandFaults.{IsFaultOf}
 use Rattle.requests.specs.HandRules.{rule_of}
 use Rattle.requests.specs.PredealtHands.{before, given_at, is_refused_at}
 use Rattle.requests.specs.declared.hand_fault.HandFault.{HandFault}
-use Rattle.sinks.specs.Shown.{shown}
+use Rattle.command_line.specs.Shown.{cut_text}
 use Rattle.boards.specs.declared.plan.PlanError.{PlanError}
 use Rattle.boards.specs.declared.plan.PlanError.TheVariants as plan
 use Rattle.requests.specs.Defaults.{candidates_of, first_board_of, lane_of, workers_in}
@@ -45,16 +45,10 @@ plan_advice s l plan.Boards =
 plan_advice s l plan.FirstBoard =
     range_line (codes "first-board") (first_board_of l) 1 (2 ^ 40) []
 
--- a text as it is shown; of more than 72 bytes the first 70, and two dots
-abbrev pub shown_text : List ℕ → List ℕ
-shown_text text =
-    if nat_le (length text) 72 then map shown text
-    else map shown (take 70 text) ++ codes ".."
-
 -- an option and the text that it was given
 abbrev pub given_text : List ℕ → List ℕ → List ℕ
 given_text option text =
-    codes "  --" ++ option ++ codes " \"" ++ shown_text text ++ codes "\": "
+    codes "  --" ++ option ++ codes " \"" ++ cut_text text ++ codes "\": "
 
 -- a text that an option was given, and what it takes
 abbrev pub text_line : List ℕ → Option (List ℕ) → List ℕ → List ℕ

@@ -5,21 +5,16 @@ ghost use Rattle.std.specs.Prelude.{◌≡◌, ◌++◌, [], option_map, string_
 ghost use Rattle.std.specs.Prelude.{IfOk, OnOk};
 ghost use Rattle.explain.specs.Advice.{IsAdviceOn, IsAdviceOnHand, candidates_advice, given_text};
 ghost use Rattle.explain.specs.Advice.{label_advice, label_rule, plan_advice, range_line};
-ghost use Rattle.explain.specs.Advice.{seat_option, shown_text, text_line};
+ghost use Rattle.explain.specs.Advice.{seat_option, text_line};
 ghost use Rattle.requests.specs.Requests.{look_of, search_of};
 
 use boards::{Format, MAX_CAPTION_CHARS, MAX_LABEL_LEN, PlanError};
 use cards::{MAX_CANDIDATES, MAX_CAPACITY, MAX_WORKERS, Seat};
+use command_line::put_cut;
 use itoa::Buffer;
 use jobs::Failure;
 use requests::{LabelName, Look, Search};
-use sinks::put_shown;
 use std::alloc::{AllocError, Global};
-
-/// The longest text that is shown whole, and how much of a longer one is shown.
-const WHOLE: usize = 72;
-
-const PART: usize = 70;
 
 /// Returns a line to be printed below the one that names the refusal of a plan, a label or a hand:
 /// the option, what it was given, and what it takes. Returns `None` for any other failure, and if
@@ -229,18 +224,6 @@ fn put_given(line: &mut String, option: &str, text: &str) -> Result<(), AllocErr
     line.push_str("  --")?;
     line.push_str(option)?;
     line.push_str(" \"")?;
-    put_text(line, text.as_bytes())?;
+    put_cut(line, text.as_bytes())?;
     line.push_str("\": ")
-}
-
-/// Appends a text as it is shown, cut if it is long.
-fn put_text(line: &mut String, text: &[u8]) -> Result<(), AllocError>
-    ensures { OnOk result (string_bytes line.new ≡ string_bytes line.old ++ shown_text text.now) }
-{
-    if text.len() <= WHOLE {
-        return put_shown(line, text);
-    }
-    let part = &text[..PART];
-    put_shown(line, part)?;
-    line.push_str("..")
 }

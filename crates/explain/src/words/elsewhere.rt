@@ -1,5 +1,6 @@
 //! Options that another command takes.
 
+use crate::words::hyphens::name_of;
 use crate::words::table::find;
 use command_line::{KnownOption, known_option, takes_option};
 
@@ -50,10 +51,7 @@ pub(crate) fn fitting(command: &str, text: &'static str) -> &'static str {
 /// The first option that the text names.
 fn first_option(text: &str) -> Option<KnownOption> {
     let (_, rest) = text.split_once("--")?;
-    let end = rest
-        .find(|c: char| !c.is_ascii_lowercase() && c != '-')
-        .unwrap_or(rest.len());
-    known_option(&rest[..end])
+    known_option(name_of(rest))
 }
 
 /// What helps with an option that this command doesn't take, and another does.

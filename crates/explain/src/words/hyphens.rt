@@ -33,7 +33,7 @@ fn of_hyphen(alloc: Global, name: &str) -> Option<String> {
 }
 
 /// The name of an option at the start of a word, as far as letters go.
-fn name_of(word: &str) -> &str {
+pub(crate) fn name_of(word: &str) -> &str {
     match word.split_once(|c: char| !c.is_ascii_lowercase() && c != '-') {
         Some((name, _)) => name,
         None => word,
