@@ -14,11 +14,11 @@ use Rattle.boards.specs.Refusals.{refusal_of}
 use Rattle.boards.specs.declared.plan.PlanError.{PlanError}
 use Rattle.boards.specs.declared.plan.PlanError.TheVariants.{Range, Workers, Capacity, Boards, FirstBoard}
 use Rattle.jobs.specs.Failures.{definitions_failure, failure_of, is_refusal, status_of}
-use Rattle.jobs.specs.FirstRefusal.{AreDue, AreRefused, HasCondition, IsCountDue, IsDueFor, IsDueRead, IsFirstHand}
+use Rattle.jobs.specs.FirstRefusal.{AreDue, AreRefused, IsCountDue, IsDueFor, IsDueRead, IsFirstHand}
 use Rattle.jobs.specs.FirstRefusal.{IsFirstOf, IsMakeDue, IsPickDue, IsPlanDue, IsShowDue, IsTextDue, IsTricksDue}
 use Rattle.jobs.specs.FirstRefusal.{Meets, of_labels, of_numbers}
 use Rattle.requests.specs.Defaults.{candidates_of, workers_in}
-use Rattle.jobs.specs.Makings.{HasLabels, HasNumbers, IsPlanned, Means}
+use Rattle.jobs.specs.Makings.{HasCondition, HasLabels, HasNumbers, IsPlanned, Means}
 use Rattle.requests.specs.Requests.{Look, Questions, Search, Wish, count, make, no_search, numbers_look, pick, plain_search, show}
 use Rattle.jobs.specs.Jobs.{IsRefused}
 use Rattle.jobs.specs.Statuses.{IsStatusOf, parts_of}
@@ -366,7 +366,7 @@ meaning_refused s l tricks notices f plan status memory due = either_way s l tri
   nothing_done = condition_refusal s f due;
 })
   where
-    no_meaning : status_of f ≡ 3 → ((form : Form) × Means s form) → ⊥
+    no_meaning : status_of f ≡ 3 → HasCondition s → ⊥
     no_meaning is means = let five : status_of f ≡ 5 = memory means.0 means.1 in omega (arith, is, five)
 
     by_status : (status_of f ≡ 5) ⊎ (status_of f ≡ 3) → IsStatusOf (make s l false notices) (status_of f)

@@ -12,9 +12,9 @@ use Rattle.requests.specs.PredealtHands.{first_refused}
 use Rattle.boards.specs.declared.plan.PlanError.TheVariants.{Range, Workers, Capacity, Boards}
 use Rattle.boards.specs.declared.plan.PlanError.TheVariants.{FirstBoard}
 use Rattle.jobs.specs.Counting.{Asks, IsAsked, IsQuestion}
-use Rattle.jobs.specs.Makings.{CanDate, CanLabel, HasLabels, HasNumbers}
+use Rattle.jobs.specs.Makings.{CanDate, CanLabel, HasCondition, HasLabels, HasNumbers}
 use Rattle.requests.specs.Defaults.{candidates_of, first_board_of}
-use Rattle.jobs.specs.Makings.{IsPlanned, MayBeGiven, Means, TextMeans}
+use Rattle.jobs.specs.Makings.{IsPlanned, MayBeGiven, TextMeans}
 use Rattle.requests.specs.Defaults.{lane_of, workers_in}
 use Rattle.requests.specs.Requests.{Look, Questions, Search, Wish, count, draw}
 use Rattle.requests.specs.Requests.{lessons}
@@ -101,7 +101,7 @@ abbrev pub IsMakeDue : Search → Look → Failure → Type 0
 IsMakeDue s l (Definitions error) = IsPlanned s l × AreDue s.let_text error
 IsMakeDue s l (Condition error) = IsPlanned s l × MayBeGiven s.let_text × IsConditionDue s error
 IsMakeDue s l (Interrupted Memory) = IsPlanned s l
-IsMakeDue s l (Interrupted cause) = IsPlanned s l × ((form : Form) × Means s form)
+IsMakeDue s l (Interrupted cause) = IsPlanned s l × HasCondition s
 IsMakeDue s l failure = IsPlanDue s l failure
 
 -- a refusal of a question's text is due after the definitions, where some are given
@@ -150,10 +150,6 @@ AreRefused definitions questions (Cells name) =
     × ((subject : Subject) × Asks definitions questions subject × (2 ^ 20 < cells_of subject))
 AreRefused definitions questions failure = ⊥
 
--- there is a condition
-abbrev pub HasCondition : Search → Type 0
-HasCondition s = (form : Form) × Means s form
-
 -- why a `count` fails: it has no plan, or its condition is refused, as a `find`; else its questions
 -- are refused, or memory ran out; else how its run was interrupted
 abbrev pub IsCountDue : Search → Questions → Failure → Type 0
@@ -190,8 +186,8 @@ IsShowDue l _ = ⊥
 -- why a `make` with tricks fails: as without; else a line of the input is refused, or the input
 -- failed
 abbrev pub IsTricksDue : Search → Look → Failure → Type 0
-IsTricksDue s l (Line line) = IsPlanned s l × ((form : Form) × Means s form)
-IsTricksDue s l Input = IsPlanned s l × ((form : Form) × Means s form)
+IsTricksDue s l (Line line) = IsPlanned s l × HasCondition s
+IsTricksDue s l Input = IsPlanned s l × HasCondition s
 IsTricksDue s l failure = IsMakeDue s l failure
 
 -- why no seed is drawn

@@ -118,3 +118,7 @@ BothMean (Some text) definitions (Some given) form =
 -- which deals a search accepts: those of which this tree holds
 abbrev pub Means : Search → Form → Type 0
 Means s form = MayBeGiven s.let_text × BothMean s.lesson s.let_text s.where_text form
+
+-- there is a condition
+abbrev pub HasCondition : Search → Type 0
+HasCondition s = (form : Form) × Means s form

@@ -1,8 +1,7 @@
 -- What has to be accepted of a wish, and what a status says of it.
 use Rattle.std.specs.Prelude.{◌≡◌, ◌⊎◌, ℕ, [], ◌∷◌, Contains, true}
-use Rattle.cond_lang.specs.Form.{Form}
 use Rattle.jobs.specs.Counting.{IsAsked}
-use Rattle.jobs.specs.Makings.{HasLabels, IsPlanned, Means}
+use Rattle.jobs.specs.Makings.{HasCondition, HasLabels, IsPlanned}
 use Rattle.requests.specs.Requests.{Wish, count, draw, make, no_search, numbers_look, pick}
 use Rattle.requests.specs.Requests.{show}
 use Rattle.statistics.specs.Counting.{Subject}
@@ -27,15 +26,14 @@ text_alone = record { plan = Unit {0}; meaning = Unit {0}; run = ⊥; input = �
 abbrev pub parts_of : Wish → Parts
 parts_of (make s l tricks notices) = record {
   plan = IsPlanned s l;
-  meaning = (form : Form) × Means s form;
+  meaning = HasCondition s;
   run = Unit {0};
   input = tricks ≡ true;
   bytes = tricks ≡ true;
 }
 parts_of (count s questions style notices) = record text_alone {
   plan = IsPlanned s numbers_look;
-  meaning = ((form : Form) × Means s form)
-      × ((subject : Subject) × IsAsked s.let_text questions subject);
+  meaning = HasCondition s × ((subject : Subject) × IsAsked s.let_text questions subject);
   run = Unit {0};
 }
 parts_of (pick seed hands l tricks hints) = record text_alone {
