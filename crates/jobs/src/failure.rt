@@ -14,12 +14,13 @@ ghost use Rattle.jobs.specs.declared.failure.Failure.TheVariants.{Interrupted};
 ghost use Rattle.sinks.specs.Messages.{text_of};
 
 use boards::{Cause, PlanError};
-use cards::Seat;
-use cond_lang::CondError;
+use cards::{MAX_CANDIDATES, Seat};
+use cond_lang::{CondError, MOST_PARTS};
 use input::records::{RecordFault, RefusedRecord};
 use input::{LineFault, RefusedLine};
 use requests::{LabelName, QuestionName};
 use sinks::{Message, Sink, SinkFault};
+use statistics::MAX_CELLS;
 use std::alloc::AllocError;
 
 /// Why a request is not served, or not all of it.
@@ -78,6 +79,13 @@ impl From<CondError> for Failure {
         }
     }
 }
+
+// The lines name these limits.
+const _: () = prove!(MAX_CANDIDATES == 1_099_511_627_776);
+
+const _: () = prove!(MAX_CELLS == 1_048_576);
+
+const _: () = prove!(MOST_PARTS == 16_384);
 
 /// The line that tells that memory ran out.
 const OUT_OF_MEMORY: &str = "out of memory\n";
