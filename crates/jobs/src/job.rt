@@ -2,9 +2,11 @@
 
 ghost use Rattle.std.specs.Prelude.{IfErr, IfOk};
 ghost use Rattle.jobs.specs.Jobs.{IsReady, IsReadyRun, IsRefused};
-ghost use Rattle.requests.specs.Requests.{count, look_of, make};
-ghost use Rattle.requests.specs.Requests.{questions_of, search_of, wish_of};
+ghost use Rattle.requests.specs.PredealtHands.{given_by};
+ghost use Rattle.requests.specs.Requests.{count, look_of, make, pick};
+ghost use Rattle.requests.specs.Requests.{questions_of, search_of, show, wish_of};
 ghost use Rattle.requests.specs.declared.request.Notices.{Notices as ANotices};
+ghost use Rattle.requests.specs.declared.when.When.{When as AWhen};
 
 use crate::boards_job::BoardsJob;
 use crate::count_job::CountJob;
@@ -13,7 +15,7 @@ use crate::questions::read_subject;
 use crate::search::{planned, read_condition, read_heading};
 use boards::{Captions, Format, Plan, Show, TableStyle};
 use requests::lessons::page;
-use requests::{Look, Notices, Questions, Request, Search, StreamRequest};
+use requests::{Look, Notices, PredealtHands, Questions, Request, Search, StreamRequest};
 use std::alloc::Global;
 
 /// What is ready to be done, and was asked for by a request.
@@ -83,26 +85,8 @@ pub fn prepare(alloc: Global, request: &Request<'_>) -> Result<Job, Failure>
             look,
             tricks,
             ..
-        } => {
-            let (plan, heading) = planned(&Search::none(*seed, *hands), look)?;
-            let Look { format, show, .. } = *look;
-            Ok(Job::Pick(PickJob {
-                plan,
-                heading,
-                format,
-                show,
-                tricks: *tricks,
-            }))
-        }
-        Request::Show { look, .. } => {
-            let heading = read_heading(look)?;
-            let Look { format, show, .. } = *look;
-            Ok(Job::Show(ShowJob {
-                format,
-                show,
-                heading,
-            }))
-        }
+        } => pick_job(*seed, hands, look, *tricks),
+        Request::Show { look, .. } => show_job(look),
         Request::Conditions => Ok(Job::Conditions),
         Request::Lessons(lesson) => Ok(Job::Lessons(page(alloc, *lesson)?)),
         Request::Seed => Ok(Job::Seed),
@@ -158,5 +142,42 @@ fn count_job(
         workers: search.workers,
         style,
         subject,
+    }))
+}
+
+/// Returns the job of a `pick`.
+fn pick_job(
+    seed: u32,
+    hands: &PredealtHands<'_>,
+    look: &Look<'_>,
+    tricks: bool,
+) -> Result<Job, Failure>
+    ensures ready { (hints : AWhen) → IfOk result
+        (IsReady (pick seed (given_by hands.now) (look_of look.now) tricks hints)) }
+    ensures refused { (hints : AWhen) → IfErr result
+        (IsRefused (pick seed (given_by hands.now) (look_of look.now) tricks hints)) }
+{
+    let (plan, heading) = planned(&Search::none(seed, *hands), look)?;
+    let Look { format, show, .. } = *look;
+    Ok(Job::Pick(PickJob {
+        plan,
+        heading,
+        format,
+        show,
+        tricks,
+    }))
+}
+
+/// Returns the job of a `show`.
+fn show_job(look: &Look<'_>) -> Result<Job, Failure>
+    ensures ready { (hints : AWhen) → IfOk result (IsReady (show (look_of look.now) hints)) }
+    ensures refused { (hints : AWhen) → IfErr result (IsRefused (show (look_of look.now) hints)) }
+{
+    let heading = read_heading(look)?;
+    let Look { format, show, .. } = *look;
+    Ok(Job::Show(ShowJob {
+        format,
+        show,
+        heading,
     }))
 }
