@@ -1,6 +1,8 @@
 //! What helps a person with a failure, below the line that names it.
 
-use cond_lang::{CondError, parse_question, parse_question_after, text_after};
+use cond_lang::{
+    CondError, Question, check_definitions, parse_question, parse_question_after, text_after,
+};
 use deals_cli::{Failure, MAX_QUESTIONS, QuestionName, Request};
 use explain::Reasons;
 use explain_conditions::{explain, explain_definitions, explain_question};
@@ -10,9 +12,6 @@ use std::alloc::Global;
 const TOO_MANY_PARTS: &str =
     "  hint: each any and every asks all in its brackets for each suit or seat: put fewer into one \
      another\n";
-
-/// The most bytes of definitions.
-const MAX_DEFINITIONS: usize = 4096;
 
 /// What helps with a failure; none if nothing does, or if memory runs out. Without a request the
 /// words were refused.
@@ -72,12 +71,15 @@ fn refused_question<'a>(
 fn is_refused(alloc: Global, definitions: Option<&str>, text: &str, error: CondError) -> bool {
     let read = match definitions {
         None => parse_question(alloc, text.as_bytes()),
-        Some(definitions) if definitions.len() <= MAX_DEFINITIONS => {
-            parse_question_after(alloc, definitions.as_bytes(), text.as_bytes())
-        }
-        Some(_) => return false,
+        Some(definitions) => read_after(alloc, definitions.as_bytes(), text.as_bytes()),
     };
     matches!(read, Err(found) if found == error)
+}
+
+/// The question after the definitions, or their refusal.
+fn read_after(alloc: Global, definitions: &[u8], text: &[u8]) -> Result<Question, CondError> {
+    check_definitions(alloc, definitions)?;
+    parse_question_after(alloc, definitions, text)
 }
 
 /// A text as it was read, and its refusal with its place there.
