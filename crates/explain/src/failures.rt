@@ -83,7 +83,10 @@ fn reason_of_input(alloc: Global, reasons: Reasons<'_>) -> Option<String> {
 /// What helps with a line of the input that is refused.
 fn line_help(line: RefusedLine) -> &'static str {
     match line.fault {
-        LineFault::NotTricks => "  hint: deals-tricks writes such lines of a file of the boards\n",
+        LineFault::NotTricks => {
+            "  hint: deals-tricks writes such lines of a file of the boards, and with --numbers \
+             --add those that deals pick --tricks reads\n"
+        }
         LineFault::Missing if line.line == 1 =>
             "  hint: no line came: is deals-tricks installed?\n",
         LineFault::Missing => "  hint: each board needs a line of the tricks of all boards\n",
@@ -91,8 +94,8 @@ fn line_help(line: RefusedLine) -> &'static str {
             "  hint: the tricks are of other boards: let deals-tricks count those of these\n"
         }
         LineFault::NotANumber | LineFault::NotBelow | LineFault::TooMany => {
-            "  hint: each line has the number of one candidate, as deals find writes it; boards of \
-             a file are for deals show\n"
+            "  hint: each line has the number of one candidate, as deals find writes it; lines \
+             with tricks need --tricks; boards of a file are for deals show\n"
         }
     }
 }
@@ -101,8 +104,8 @@ fn line_help(line: RefusedLine) -> &'static str {
 fn record_help(line: RefusedRecord) -> Option<&'static str> {
     match line.fault {
         RecordFault::NotADeal => Some(
-            "  hint: a deal has all 52 cards, thirteen at each seat: [Deal \"N:72.AT64.75.AT872 \
-             ...\"]\n",
+            "  hint: a deal has 52 cards, thirteen at each seat, in capitals, T for the ten, one \
+             blank between hands: [Deal \"N:72.AT64.75.AT872 ...\"]\n",
         ),
         RecordFault::NotANumber => Some("  hint: boards have numbers from 1 to 1099511627776\n"),
         RecordFault::NotADealer => Some("  hint: the dealer is N, E, S or W\n"),

@@ -18,12 +18,14 @@ mod values;
 
 use self::refused::{Refused, What};
 pub use self::tips::without_far_tips;
-use command_line::{Taken, known_option};
+use command_line::{Taken, known_option, takes_option};
 use std::alloc::Global;
 
 const COMMAND_FIRST: &str = "the command comes first: deals make --seed 7 --boards 36";
 
 const AFTER_OPTIONS: &str = "each value comes after its option, as --seed 7 --boards 36";
+
+const PICKED_FILE: &str = "numbers of a file come from standard input: deals pick --seed 7 < ";
 
 const SHOWN_FILE: &str = "boards of a file come from standard input: deals show < ";
 
@@ -99,8 +101,8 @@ fn of_argument(alloc: Global, words: &[String], command: &str, word: &str) -> Op
     of_stray(alloc, command, word)
 }
 
-/// What helps with a word that belongs to no option of the command. One of `show` may be the name
-/// of a file.
+/// What helps with a word that belongs to no option of the command. One of `show` or `pick` may be
+/// the name of a file.
 fn of_stray(alloc: Global, command: &str, word: &str) -> Option<String> {
     if let Some(text) = of_format(alloc, command, word) {
         return Some(text);
@@ -108,13 +110,36 @@ fn of_stray(alloc: Global, command: &str, word: &str) -> Option<String> {
     if let Some(text) = instead::of_word(command, word) {
         return joined(alloc, &[elsewhere::fitting(command, text)]);
     }
-    if command == "show" {
-        return joined(alloc, &[SHOWN_FILE, word]);
+    match command {
+        "show" => return joined(alloc, &[SHOWN_FILE, word]),
+        "pick" => return joined(alloc, &[PICKED_FILE, word]),
+        _ => {}
+    }
+    if let Some(text) = of_value_alone(alloc, command, word) {
+        return Some(text);
     }
     joined(
         alloc,
         &[elsewhere::of_command(command).unwrap_or(AFTER_OPTIONS)],
     )
+}
+
+/// What helps with the name of a lesson, or of a file that has a condition, without its option.
+fn of_value_alone(alloc: Global, command: &str, word: &str) -> Option<String> {
+    if word.ends_with(".cond") && takes_option(command, "where") {
+        return joined(
+            alloc,
+            &[
+                "a file's text goes in quotes: --where \"$(cat ",
+                word,
+                ")\"",
+            ],
+        );
+    }
+    if !takes_option(command, "lesson") {
+        return None;
+    }
+    values::hint(alloc, command, "--lesson", word)
 }
 
 /// What helps with the name of a format in the place of an option of `count`, which has its own.

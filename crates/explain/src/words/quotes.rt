@@ -4,6 +4,9 @@ use crate::words::joined;
 use command_line::{Taken, known_option};
 use std::alloc::{AllocError, Global};
 
+/// The option of a question, which may come several times.
+const QUESTION: &str = "--of";
+
 /// The longest text that is shown whole.
 const LONGEST: usize = 60;
 
@@ -18,7 +21,14 @@ pub(crate) fn hint(alloc: Global, words: &[String], word: &str) -> Option<String
     if word.starts_with('-') && word.len() > 1 {
         return of_hyphen(alloc, option, word, next == at && first.is_empty());
     }
-    of_text(alloc, option, first, words.get(next..)?)
+    let words = words.get(next..)?;
+    if option == QUESTION
+        && first.is_empty()
+        && let Some(text) = of_questions(alloc, words)
+    {
+        return Some(text);
+    }
+    of_text(alloc, option, first, words)
 }
 
 /// Where the last option before the word is, and where the word is first.
@@ -47,6 +57,23 @@ fn of_hyphen(alloc: Global, option: &str, word: &str, is_value: bool) -> Option<
     }
     let before = "a value that begins with - comes after =: ";
     joined(alloc, &[before, option, "=", word])
+}
+
+/// What helps where several questions come after one option, each in quotes of its own.
+fn of_questions(alloc: Global, words: &[String]) -> Option<String> {
+    let mut text = joined(alloc, &["each question comes after its own option:"])?;
+    for word in words {
+        let word = word.as_str();
+        if word.starts_with("--") {
+            break;
+        }
+        if !word.contains('(') || !word.ends_with(')') || !is_plain(word) {
+            return None;
+        }
+        text.push_str(joined(alloc, &[" ", QUESTION, " '", word, "'"])?.as_str())
+            .ok()?;
+    }
+    Some(text)
 }
 
 /// What helps with a text of several words, which is shown if a person can type it so.

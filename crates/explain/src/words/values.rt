@@ -1,7 +1,8 @@
 //! Values of options in other spellings, and the word to write.
 
-use crate::words::table::find_small;
+use crate::words::table::{find, find_small};
 use crate::words::{joined, valued};
+use requests::lessons::named;
 use std::alloc::Global;
 
 /// Spellings of each option's values in small letters, and the value; `count` has its own formats.
@@ -90,12 +91,17 @@ const ONE_FORMAT: &str = "one format a run: run it again with the same seed for 
 
 /// What helps with the value of this option, in any case.
 pub(crate) fn hint(alloc: Global, command: &str, option: &str, word: &str) -> Option<String> {
-    if let Some(lesson) = find_small(alloc, LESSONS, "lesson", word) {
-        match option {
-            "--lesson" => return valued(alloc, "write ", option, lesson, ""),
-            LESSON_NAME => return joined(alloc, &["write deals lessons ", lesson]),
-            _ => {}
+    match option {
+        "--lesson" => {
+            return valued(alloc, "write ", option, lesson(alloc, word)?.as_str(), "");
         }
+        LESSON_NAME => {
+            return joined(
+                alloc,
+                &["write deals lessons ", lesson(alloc, word)?.as_str()],
+            );
+        }
+        _ => {}
     }
     let of_count = command == "count" && option == "--format";
     let of = if of_count { command } else { option };
@@ -107,4 +113,24 @@ pub(crate) fn hint(alloc: Global, command: &str, option: &str, word: &str) -> Op
     }
     let value = find_small(alloc, SPELLINGS, of, word)?;
     valued(alloc, "write ", option, value, "")
+}
+
+/// The name of a lesson in any case and with blanks, or that of what people call so.
+fn lesson(alloc: Global, word: &str) -> Option<String> {
+    let name = hyphenated(alloc, word)?;
+    if let Some(lesson) = find(LESSONS, "lesson", name.as_str()) {
+        return joined(alloc, &[lesson]);
+    }
+    named(name.as_str())?;
+    Some(name)
+}
+
+/// The text in small letters, with hyphens for its blanks.
+fn hyphenated(alloc: Global, text: &str) -> Option<String> {
+    let mut name = String::new(alloc);
+    for letter in text.chars() {
+        let letter = if letter == ' ' { '-' } else { letter };
+        name.push(letter.to_ascii_lowercase()).ok()?;
+    }
+    Some(name)
 }
