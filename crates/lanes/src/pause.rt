@@ -39,8 +39,8 @@ const PARTS_OF_A_LANE: usize = 2;
 /// How many spins without progress an end waits before it yields: some microseconds.
 const PATIENCE: usize = 640;
 
-/// A yield took long if the other end waited meanwhile for this many spins. That is less than its
-/// patience, since it then yields too.
+/// A yield took long if the other end waited meanwhile for this many spins. That is less than
+/// its patience, since it then yields too.
 const LONG_YIELD: u64 = 384;
 
 /// A long yield shows nothing once this many others came after it.
@@ -65,8 +65,8 @@ const FEWEST_BEFORE_YIELDS: u32 = 1024;
 
 const MOST_BEFORE_YIELDS: u32 = 16_384;
 
-/// This many yields in that wait show that the machine isn't busy: else the other end would have had
-/// its turn during the first ones.
+/// This many yields in that wait show that the machine isn't busy: else the other end would have
+/// had its turn during the first ones.
 const SHORT_YIELDS: u32 = 16;
 
 /// When an end that sleeps tries something else: after a number of waits with a sleep, and after

@@ -1,4 +1,5 @@
--- The deals around fixed cards, and those that a candidate can still become once West's hand is known.
+-- The deals around fixed cards, and those that a candidate can still become once West's hand is
+-- known.
 use Rattle.std.specs.Prelude.{◌≡◌, ℕ, Bool, List, Option, Some, slice_get}
 use Rattle.cards.specs.declared.seat.Seat.{Seat}
 use Rattle.cards.specs.declared.seat.Seat.TheVariants.{West}
