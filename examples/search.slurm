@@ -16,5 +16,11 @@ fi
 folder=$1
 # In ten, without zeros in front: the shell's own arithmetic takes 010 for eight.
 count=$(printf '%s\n' "$2" | sed 's/^0*\(.\)/\1/')
+case $count in
+'' | *[!0-9]* | ??????????????*)
+    echo "search.slurm: '$2' is not a number of at most 13 digits" >&2
+    exit 2
+    ;;
+esac
 shift 2
 exec "${SHARD:-/usr/share/doc/deals/examples/shard}" "$folder" $((SLURM_ARRAY_TASK_ID * count)) "$count" "$@"

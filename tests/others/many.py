@@ -15,7 +15,7 @@ def each(tests):
 def joined():
     """Shards one after another, in an array of jobs, and by GNU parallel; searches that are stopped, and resumed."""
     yield from each([shards.joined, shards.array, shards.parallel, shards.stopped, shards.resumed, shards.begun,
-                     shards.known, shards.usage])
+                     shards.known, shards.refused, shards.usage])
 
 
 def clusters():

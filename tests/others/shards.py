@@ -188,6 +188,22 @@ def known(_):
             yield f"{script.name}, a hyphen in front", None if right else str(run)
 
 
+def refused(_):
+    """Options that deals refuses, or no deals at all, leave no file of a search; what is there stays as it is."""
+    for said, options, program in (
+        (b"condition refused", ["--where", "hcp(nord)>3"], str(harness.PROGRAM)), (b"not found", [], "no-such-program"),
+    ):
+        with tempfile.TemporaryDirectory(prefix="refused-") as folder:
+            settings = {"env": {**os.environ, "DEALS": program}, "capture_output": True, "check": False}
+            for there in ({}, {"found": b""}):
+                for name, text in there.items():
+                    (pathlib.Path(folder) / name).write_bytes(text)
+                run = subprocess.run(["sh", str(RESUME), f"{folder}/found", "20", *SEED, *options], **settings)
+                left = {file.name: file.read_bytes() for file in pathlib.Path(folder).iterdir()}
+                right = run.returncode in (3, 127) and said in run.stderr and left == there
+                yield f"resume, refused {options}, {there}", None if right else f"{run}, {left}"
+
+
 def stopped(deals):
     """A shard that is stopped alone, by each signal: its search has ended, and no number is left of it."""
     for sign in (signal.SIGHUP, signal.SIGINT, signal.SIGQUIT, signal.SIGTERM):
@@ -208,6 +224,11 @@ def usage(deals):
     """The script for Slurm without its words says how it is called."""
     run = subprocess.run([harness.TOP / "examples" / "search.slurm"], capture_output=True, check=False)
     yield "search.slurm, no words", None if run.returncode == 2 and run.stderr.startswith(b"usage: sbatch") else str(run)
+    for count in ("1,000", "", "1e6", "-1", "99999999999999"):
+        words = [harness.TOP / "examples" / "search.slurm", "no-folder", count, *SEED]
+        run = subprocess.run(words, env={**os.environ, "SLURM_ARRAY_TASK_ID": "0"}, capture_output=True, check=False)
+        is_told = run.stderr == f"search.slurm: '{count}' is not a number of at most 13 digits\n".encode()
+        yield f"search.slurm, {count}", None if run.returncode == 2 and is_told else str(run)
 
 
 def array(deals):
