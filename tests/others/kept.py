@@ -100,7 +100,7 @@ def rows_of_rules():
         "--tricks S-N=5": True, "--tricks S-N=6": False, "--tricks S-N=4": False, "--tricks S-N>=5": True,
         "--tricks S-N>=6": False, "--tricks S-N<=5": True, "--tricks S-N<=4": False, "--tricks NT-EW=6": True,
         "--tricks NT-EW=7": False, "--tricks C-W>=0": True, "--tricks C-W<=13": True, "--tricks C-W=13": False,
-        "--makes 1C-NS --beaten 1C-EW": True, "--makes 1C-NS --beaten 1C-NS": False,
+        "--makes 1C-NS --beaten 1C-EW": True,
         "--makes 2S-W --tricks H-S=6": True, "--tricks N-EW=6": True, "--tricks N-EW=7": False,
         "--makes 1N-N": False, "--beaten 1N-NS": True,
     }.items():
