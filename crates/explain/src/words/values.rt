@@ -92,15 +92,8 @@ const ONE_FORMAT: &str = "one format a run: run it again with the same seed for 
 /// What helps with the value of this option, in any case.
 pub(crate) fn hint(alloc: Global, command: &str, option: &str, word: &str) -> Option<String> {
     match option {
-        "--lesson" => {
-            return valued(alloc, "write ", option, lesson(alloc, word)?.as_str(), "");
-        }
-        LESSON_NAME => {
-            return joined(
-                alloc,
-                &["write deals lessons ", lesson(alloc, word)?.as_str()],
-            );
-        }
+        "--lesson" => return of_lesson(alloc, "write --lesson ", word),
+        LESSON_NAME => return of_lesson(alloc, "write deals lessons ", word),
         _ => {}
     }
     let of_count = command == "count" && option == "--format";
@@ -113,6 +106,12 @@ pub(crate) fn hint(alloc: Global, command: &str, option: &str, word: &str) -> Op
     }
     let value = find_small(alloc, SPELLINGS, of, word)?;
     valued(alloc, "write ", option, value, "")
+}
+
+/// What helps with the name of a lesson that is written otherwise.
+fn of_lesson(alloc: Global, before: &str, word: &str) -> Option<String> {
+    let name = lesson(alloc, word)?;
+    joined(alloc, &[before, name.as_str()])
 }
 
 /// The name of a lesson in any case and with blanks, or that of what people call so.
