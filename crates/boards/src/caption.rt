@@ -13,7 +13,7 @@ use std::marker::Model;
 pub const MAX_CAPTION_CHARS: usize = 100;
 
 /// How many bytes these have at most.
-pub const MAX_CAPTION_BYTES: usize = 400;
+const MAX_CAPTION_BYTES: usize = 400;
 
 /// The text of an event or a site, which contracts see as its bytes.
 ///

@@ -50,7 +50,7 @@ slips, json]";
 
 impl Format {
     /// Whether the boards have numbers of their own.
-    pub fn numbers_boards(self) -> bool
+    pub(crate) fn numbers_boards(self) -> bool
         ensures { result ≡ numbers_boards self }
     {
         !matches!(self, Format::Numbers)

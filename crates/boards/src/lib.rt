@@ -36,7 +36,7 @@ mod words;
 
 pub use board::Board;
 pub use buffer::{CAPACITY, RANK_LETTERS, SuitLetters, TextBuffer};
-pub use caption::{Caption, MAX_CAPTION_BYTES, MAX_CAPTION_CHARS};
+pub use caption::{Caption, MAX_CAPTION_CHARS};
 pub use captions::Captions;
 pub use cause::Cause;
 pub use format::{FORMAT_HELP, FORMATS, Format};

@@ -9,7 +9,7 @@ use crate::{Board, Notation, Plan};
 use cards::Deal;
 use sinks::{Sink, SinkFault, put_all};
 
-/// Whether so many boards are the limit of the plan; false if it has none.
+/// Returns whether the plan's limit of boards is reached; false if it has none.
 pub fn is_full(plan: &Plan, boards: u64) -> bool
     ensures { IsTrue result ↔ (plan.now.limit ≡ Some boards) }
 {

@@ -11,6 +11,7 @@ pub mod laws;
 mod limits;
 mod meaning;
 mod question;
+pub mod shapes;
 mod tree;
 
 pub use condition::Cond;

@@ -6,7 +6,6 @@ mod facts;
 mod held;
 mod never;
 mod refuted;
-mod shapes;
 mod splits;
 mod torn;
 mod values;

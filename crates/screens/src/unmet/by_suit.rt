@@ -33,9 +33,15 @@ impl BySuit {
     }
 
     /// The numbers in the order of the suits.
-    pub(crate) fn in_order(self) -> [u64; 4]
+    pub(crate) fn in_order(self) -> [u16; 4]
+        requires { HasUpTo 65535 self }
         ensures { result ≡ in_order self }
     {
-        [self.spades, self.hearts, self.diamonds, self.clubs]
+        [
+            self.spades as u16,
+            self.hearts as u16,
+            self.diamonds as u16,
+            self.clubs as u16,
+        ]
     }
 }

@@ -1,6 +1,7 @@
 //! What a tree can't be, by what is known of a deal.
 
 ghost use Rattle.std.specs.Prelude.{◌≡◌};
+ghost use Rattle.cards.specs.Hands.{is_balanced};
 ghost use Rattle.conditions.specs.declared.limits.TheConstants.{MOST_PARTS};
 ghost use Rattle.conditions.specs.Form.{form_of};
 ghost use Rattle.conditions.specs.Limits.{HasAtMostAtoms};
@@ -9,10 +10,8 @@ ghost use Rattle.screens.specs.Refuted.{is_refuted_shape, shape_by};
 
 use crate::relation::related_as;
 use crate::unmet::facts::Facts;
-use crate::unmet::shapes::{
-    are_allowed, are_allowed_in_some_order, is_balanced, is_rearrangement, is_same,
-};
 use cards::Seat;
+use conditions::shapes::{are_allowed, are_allowed_in_some_order, is_rearrangement, is_same};
 use conditions::{Op, Tree};
 
 impl Facts {
@@ -60,11 +59,11 @@ impl Facts {
                 None => false,
             },
             Tree::Shape(seat, lengths) => match self.shape(*seat) {
-                Some(shape) => is_same(&shape, &widened(lengths)) != truth,
+                Some(shape) => is_same(&shape, lengths) != truth,
                 None => false,
             },
             Tree::Pattern(seat, lengths) => match self.shape(*seat) {
-                Some(shape) => is_rearrangement(&shape, &widened(lengths)) != truth,
+                Some(shape) => is_rearrangement(&shape, lengths) != truth,
                 None => false,
             },
             Tree::LooseShape(seat, items) => match self.shape(*seat) {
@@ -80,7 +79,7 @@ impl Facts {
     }
 
     /// The seat's shape, if it is known.
-    fn shape(&self, seat: Seat) -> Option<[u64; 4]>
+    fn shape(&self, seat: Seat) -> Option<[u16; 4]>
         ensures { result ≡ shape_by self.now seat }
     {
         let least = self.least_lengths(seat).in_order();
@@ -90,6 +89,15 @@ impl Facts {
             None
         }
     }
+}
+
+/// Whether the lengths are 4-3-3-3, 4-4-3-2 or 5-3-3-2 in some order.
+fn is_balanced(lengths: &[u16; 4]) -> bool
+    ensures { result ≡ is_balanced lengths.now }
+{
+    is_rearrangement(lengths, &[4, 3, 3, 3])
+        || is_rearrangement(lengths, &[4, 4, 3, 2])
+        || is_rearrangement(lengths, &[5, 3, 3, 2])
 }
 
 /// Whether the relation holds of no two numbers, the left from a to b and the right from c to d.
@@ -115,17 +123,4 @@ fn is_never_within(truth: bool, a: u64, b: u64, m: u64, n: u64) -> bool
     } else {
         m <= a && b <= n
     }
-}
-
-/// Four lengths.
-fn widened(lengths: &[u16; 4]) -> [u64; 4]
-    ensures { result ≡ lengths.now }
-{
-    let [spades, hearts, diamonds, clubs] = *lengths;
-    [
-        u64::from(spades),
-        u64::from(hearts),
-        u64::from(diamonds),
-        u64::from(clubs),
-    ]
 }

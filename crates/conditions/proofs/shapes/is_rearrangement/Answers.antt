@@ -3,7 +3,7 @@ use Rattle.std.specs.List.{list_all}
 use Rattle.std.proofs.lemmas.List.Folds.{list_all-append}
 use Rattle.cards.specs.Hands.{is_rearrangement}
 use Rattle.cards.proofs.Rearranging.{rearrangement_by_counts}
-use Rattle.conditions.proofs.meaning.is_rearrangement.Goals as goal
+use Rattle.conditions.proofs.shapes.is_rearrangement.Goals as goal
 
 -- whether each of the numbers stands as often in xs as in ys
 abbrev as_often : List ℕ → List ℕ → List ℕ → Bool

@@ -1,64 +1,57 @@
-//! Tests of a shape that is known.
+//! The lengths of a hand's suits, and which of them a test of a shape asks for.
 
 ghost use Rattle.std.specs.Prelude.{◌≡◌, ◌==◌, [], ◌∷◌, count_by};
 ghost use Rattle.std.specs.List.{list_all, list_any};
-ghost use Rattle.cards.specs.Hands.{is_balanced, is_rearrangement, is_same, orders_of};
+ghost use Rattle.cards.specs.Hands.{is_same, is_rearrangement, orders_of};
 ghost use Rattle.conditions.specs.Meaning.{allows, are_allowed, are_allowed_in_some_order};
 
-use conditions::Item;
+use crate::Item;
 
-/// Whether the lengths are 4-3-3-3, 4-4-3-2 or 5-3-3-2 in some order.
-pub(crate) fn is_balanced(lengths: &[u64; 4]) -> bool
-    ensures { result ≡ is_balanced lengths.now }
+/// Returns whether two lists have the same numbers in the same order.
+pub fn is_same(left: &[u16; 4], right: &[u16; 4]) -> bool
+    ensures { result ≡ is_same left.now right.now }
 {
-    is_rearrangement(lengths, &[4, 3, 3, 3])
-        || (is_rearrangement(lengths, &[4, 4, 3, 2]) || is_rearrangement(lengths, &[5, 3, 3, 2]))
+    left == right
 }
 
-/// Whether two lists have the same numbers in the same order.
-pub(crate) fn is_same(one: &[u64; 4], other: &[u64; 4]) -> bool
-    ensures { result ≡ is_same one.now other.now }
+/// Returns whether two lists have the same numbers in some order, each as often in one as in the
+/// other.
+pub fn is_rearrangement(left: &[u16], right: &[u16]) -> bool
+    ensures { result ≡ is_rearrangement left.now right.now }
 {
-    one == other
-}
-
-/// Whether two lists have the same numbers in some order, each as often in one as in the other.
-pub(crate) fn is_rearrangement(one: &[u64], other: &[u64]) -> bool
-    ensures { result ≡ is_rearrangement one.now other.now }
-{
-    are_as_often(one, one, other) && are_as_often(other, one, other)
+    are_as_often(left, left, right) && are_as_often(right, left, right)
 }
 
 /// Whether each of the numbers occurs as often in one list as in the other.
-fn are_as_often(numbers: &[u64], one: &[u64], other: &[u64]) -> bool
+fn are_as_often(numbers: &[u16], left: &[u16], right: &[u16]) -> bool
     ensures { result ≡
-        list_all (λ x. count_by (λ y. y == x) one.now == count_by (λ y. y == x) other.now)
+        list_all (λ x. count_by (λ y. y == x) left.now == count_by (λ y. y == x) right.now)
         numbers.now }
 {
     numbers
         .iter()
-        .all(|number| count(one, *number) == count(other, *number))
+        .all(|number| count(left, *number) == count(right, *number))
 }
 
 /// How often a number occurs in a list.
-fn count(numbers: &[u64], wanted: u64) -> usize
+fn count(numbers: &[u16], wanted: u16) -> usize
     ensures { result ≡ count_by (λ n. n == wanted) numbers.now }
 {
     numbers.iter().filter(|number| **number == wanted).count()
 }
 
 /// Whether an item allows a suit of this length.
-fn allows(item: Item, length: u64) -> bool
+fn allows(item: Item, length: u16) -> bool
     ensures { result ≡ allows item length }
 {
     match item {
         Item::Any => true,
-        Item::Length(wanted) => length == u64::from(wanted),
+        Item::Length(wanted) => length == wanted,
     }
 }
 
-/// Whether the items allow the lengths, each the one at its place.
-pub(crate) fn are_allowed(items: &[Item; 4], lengths: &[u64; 4]) -> bool
+/// Returns whether the items allow the lengths, each the one at its place.
+pub fn are_allowed(items: &[Item; 4], lengths: &[u16; 4]) -> bool
     ensures { result ≡ are_allowed items.now lengths.now }
 {
     allows(items[0], lengths[0])
@@ -67,8 +60,8 @@ pub(crate) fn are_allowed(items: &[Item; 4], lengths: &[u64; 4]) -> bool
         && allows(items[3], lengths[3])
 }
 
-/// Whether the items allow the lengths in some order.
-pub(crate) fn are_allowed_in_some_order(items: &[Item; 4], lengths: &[u64; 4]) -> bool
+/// Returns whether the items allow the lengths in some order.
+pub fn are_allowed_in_some_order(items: &[Item; 4], lengths: &[u16; 4]) -> bool
     ensures { result ≡ are_allowed_in_some_order items.now lengths.now }
 {
     let shapes = orders_of(lengths[0], lengths[1], lengths[2], lengths[3]);
@@ -76,14 +69,14 @@ pub(crate) fn are_allowed_in_some_order(items: &[Item; 4], lengths: &[u64; 4]) -
 }
 
 /// Whether the items allow some of the shapes.
-fn allow_one(items: &[Item; 4], shapes: &[[u64; 4]]) -> bool
+fn allow_one(items: &[Item; 4], shapes: &[[u16; 4]]) -> bool
     ensures { result ≡ list_any (are_allowed items.now) shapes.now }
 {
     shapes.iter().any(|shape| are_allowed(items, shape))
 }
 
 /// The orders in which four numbers may come.
-fn orders_of(a: u64, b: u64, c: u64, d: u64) -> [[u64; 4]; 24]
+fn orders_of(a: u16, b: u16, c: u16, d: u16) -> [[u16; 4]; 24]
     ensures { result ≡ orders_of (a ∷ b ∷ c ∷ d ∷ []) }
 {
     [

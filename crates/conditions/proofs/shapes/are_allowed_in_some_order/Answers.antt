@@ -2,7 +2,7 @@ use Rattle.std.proofs.Common.{◌≡◌, ℕ, List, [], ◌∷◌, length, get_o
 use Rattle.std.specs.List.{list_any}
 use Rattle.cards.specs.Hands.{orders_of}
 use Rattle.conditions.specs.Meaning.{are_allowed, are_allowed_in_some_order}
-use Rattle.conditions.proofs.meaning.are_allowed_in_some_order.Goals as goal
+use Rattle.conditions.proofs.shapes.are_allowed_in_some_order.Goals as goal
 
 -- the numbers of a list of four, one by one
 four_of : (xs : List ℕ) → length xs ≡ 4 → get_or xs 0 0 ∷ get_or xs 1 0 ∷ get_or xs 2 0 ∷ get_or xs 3 0 ∷ [] ≡ xs
