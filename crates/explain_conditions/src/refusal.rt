@@ -11,9 +11,9 @@ use crate::asked::TextKind;
 use crate::excerpt::put_excerpt;
 use crate::expected::put_expected;
 use crate::kinds::KindSet;
-use crate::rules::{ONE_OF, Said, of_piece, of_syntax, suggested, within};
+use crate::rules::{Said, of_piece, of_syntax, read, read_within, suggested};
 use cards::Fixed;
-use cond_lang::{Beginning, CondError, Kind, names_of, parse};
+use cond_lang::{Beginning, CondError, Kind, names_of};
 use itoa::Buffer;
 use screens::unmet::is_never;
 use sinks::put_shown;
@@ -234,24 +234,12 @@ fn sound(alloc: Global, hint: Vec<u8>) -> Result<Vec<u8>, AllocError> {
     Ok(told)
 }
 
-/// Whether no deal meets the condition, by its numbers alone.
+/// Whether no deal meets the condition, or the test in the brackets of a class, by its numbers
+/// alone.
 fn is_never_met(alloc: Global, condition: &[u8]) -> Result<bool, AllocError> {
-    match parse(alloc, condition) {
-        Ok(condition) => Ok(is_never(&condition, &Fixed::none())),
-        Err(CondError::Memory) => Err(AllocError),
-        Err(_) => is_never_met_within(alloc, condition),
-    }
-}
-
-/// Whether no deal meets the test in the brackets of a class.
-fn is_never_met_within(alloc: Global, test: &[u8]) -> Result<bool, AllocError> {
-    for class in ONE_OF {
-        let text = within(alloc, class, test)?;
-        match parse(alloc, text.as_slice()) {
-            Ok(condition) => return Ok(is_never(&condition, &Fixed::none())),
-            Err(CondError::Memory) => return Err(AllocError),
-            Err(_) => {}
-        }
-    }
-    Ok(false)
+    let found = match read(alloc, condition)? {
+        None => read_within(alloc, condition)?,
+        found => found,
+    };
+    Ok(found.is_some_and(|condition| is_never(&condition, &Fixed::none())))
 }

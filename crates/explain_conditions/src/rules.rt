@@ -26,7 +26,7 @@ mod slips;
 mod tables;
 mod words;
 
-pub use filling::{ONE_OF, suggested, within};
+pub use filling::{read, read_within, suggested};
 pub use hint::{Said, of_piece, of_syntax};
 pub use joined::joined_tests;
 pub use kinds::Kinds;

@@ -27,19 +27,17 @@
 
 use crate::rules::amounts::{Amount, amount_at, counted_at, ordered};
 use crate::rules::hint::Said;
-use crate::rules::lists::{BINDS, CLASSES, ENDS, STARTS};
+use crate::rules::lists::{BINDS, ENDS, STARTS};
 use crate::rules::outside::tests_that_name;
 use crate::rules::parts::Parts;
 use crate::rules::rule::{fits, without_zeros};
 use crate::rules::samples::{comparison, sample};
 use crate::rules::seats::seat_at;
-use crate::rules::words::{is, is_one_of, number};
+use crate::rules::words::{is, is_one_of, is_suit_class, number};
 use cond_lang::{CondError, Token, WORDS, parse};
+use conditions::Cond;
 use itoa::Buffer;
 use std::alloc::{AllocError, Global};
-
-/// The classes of which one suit or one seat may meet a test.
-pub const ONE_OF: [&str; 6] = ["suit", "major", "minor", "seat", "ns", "ew"];
 
 /// What comes after a word and a seat, where it isn't a suit or the bracket.
 static AFTER_SEATS: &[(&str, &str)] = &[
@@ -172,33 +170,41 @@ fn is_accepted_in(alloc: Global, parts: &Parts, condition: &[u8]) -> Result<bool
     if is_accepted(alloc, condition)? {
         return Ok(true);
     }
-    if !parts.has(BINDS) {
-        return Ok(false);
-    }
-    for class in ONE_OF {
-        if is_accepted(alloc, within(alloc, class, condition)?.as_slice())? {
-            return Ok(true);
-        }
-    }
-    Ok(false)
+    Ok(parts.has(BINDS) && read_within(alloc, condition)?.is_some())
 }
 
-/// Returns the condition that some suit or seat of the class meets the test.
+/// Returns the condition that some suit or seat meets the test, of the first class that it names.
 ///
 /// # Errors
 /// `AllocError` if an allocation failed.
-pub fn within(alloc: Global, class: &str, test: &[u8]) -> Result<Vec<u8>, AllocError> {
-    let mut out = Vec::new(alloc);
-    put_all(&mut out, &[b"any ", class.as_bytes(), b" (", test, b")"])?;
-    Ok(out)
+pub fn read_within(alloc: Global, test: &[u8]) -> Result<Option<Cond>, AllocError> {
+    for (class, token) in WORDS.iter() {
+        if matches!(token, Token::Class(_)) {
+            let mut text = Vec::new(alloc);
+            put_all(&mut text, &[b"any ", class.as_bytes(), b" (", test, b")"])?;
+            let found = read(alloc, text.as_slice())?;
+            if found.is_some() {
+                return Ok(found);
+            }
+        }
+    }
+    Ok(None)
 }
 
 /// Whether the language has the condition.
 pub(crate) fn is_accepted(alloc: Global, condition: &[u8]) -> Result<bool, AllocError> {
+    Ok(read(alloc, condition)?.is_some())
+}
+
+/// Returns the condition, if the language has it.
+///
+/// # Errors
+/// `AllocError` if an allocation failed.
+pub fn read(alloc: Global, condition: &[u8]) -> Result<Option<Cond>, AllocError> {
     match parse(alloc, condition) {
-        Ok(_) => Ok(true),
+        Ok(condition) => Ok(Some(condition)),
         Err(CondError::Memory) => Err(AllocError),
-        Err(_) => Ok(false),
+        Err(_) => Ok(None),
     }
 }
 
@@ -274,7 +280,7 @@ fn put_after_seat(out: &mut Vec<u8>, parts: &Parts, word: &[u8]) -> Result<(), A
         return out.extend_from_slice(after_seat(word).as_bytes());
     }
     let class = parts.class();
-    let suit = if is_one_of(class, CLASSES) {
+    let suit = if is_suit_class(class) {
         class
     } else {
         b"spades"

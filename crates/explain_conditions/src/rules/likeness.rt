@@ -4,7 +4,7 @@ use crate::rules::filling::joined;
 use crate::rules::hint::Said;
 use crate::rules::lists::THROUGH;
 use crate::rules::parts::Parts;
-use crate::rules::words::{is, is_call, is_one_of, is_seat, is_suit};
+use crate::rules::words::{is, is_call, is_neighbour, is_one_of, is_seat, is_seat_class, is_suit};
 use cond_lang::WORDS;
 use std::alloc::{AllocError, Global};
 use strsim::jaro;
@@ -92,12 +92,12 @@ fn is_at_home(parts: &Parts, word: &[u8]) -> bool {
     let is_first = is(parts.at(parts.fault.saturating_sub(1)), "(");
     if is_call(parts.call()) {
         return if is_first {
-            is_seat(word) || is_one_of(word, "partner left right")
+            is_seat(word) || is_neighbour(word)
         } else {
             is_suit(word)
         };
     }
-    if is_one_of(word, "seat ns ew partner left right") {
+    if is_seat_class(word) || is_neighbour(word) {
         return is_one_of(parts.at(parts.fault.saturating_sub(1)), THROUGH);
     }
     !is(parts.at(parts.fault.saturating_add(1)), "(") || is_call(word)

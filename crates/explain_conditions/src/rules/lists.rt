@@ -5,27 +5,17 @@ pub(crate) const STARTS: &str = " ( and or not";
 
 pub(crate) const ENDS: &str = " ) and or";
 
-/// The classes of suits, and what stands for the others in their brackets.
-pub(crate) const CLASSES: &str = "suit major minor other";
-
 /// What goes through a class.
 pub(crate) const THROUGH: &str = "any every";
 
 /// What binds a class.
 pub(crate) const BINDS: &str = "any every let";
 
-static LISTS: [(&str, &str); 22] = [
+static LISTS: [(&str, &str); 20] = [
     ("STARTS", STARTS),
     ("ENDS", ENDS),
-    // The classes that any and every go through, of suits and of seats.
-    ("ANY_CLASS", "suit major minor other seat ns ew"),
     // The signs of the suits.
     ("SUIT_SIGNS", "\u{2660} \u{2665} \u{2666} \u{2663}"),
-    // The suits, and the classes that stand for one.
-    (
-        "SUITS",
-        "spades hearts diamonds clubs suit major minor other",
-    ),
     // How a person joins two suits of which one is meant, two that are both meant, and either.
     ("OR", "or / | ||"),
     ("AND", "and & &&"),

@@ -2,9 +2,9 @@
 
 use crate::rules::filling::{is_accepted, joined};
 use crate::rules::hint::Said;
-use crate::rules::lists::{CLASSES, THROUGH};
+use crate::rules::lists::THROUGH;
 use crate::rules::parts::Parts;
-use crate::rules::words::{depth_after, is, is_one_of, is_short_line};
+use crate::rules::words::{depth_after, is, is_one_of, is_short_line, is_suit_class};
 use cond_lang::Kind;
 use std::alloc::{AllocError, Global};
 
@@ -24,7 +24,7 @@ struct Outside {
 /// `any major (len(north,major)>=5) and len(south,major)>=3`
 pub(crate) fn hint(alloc: Global, parts: &Parts) -> Said {
     let class = parts.at(parts.fault);
-    if !is_one_of(class, CLASSES) || !parts.can.has(Kind::Suit) {
+    if !is_suit_class(class) || !parts.can.has(Kind::Suit) {
         return Ok(None);
     }
     let Some(start) = through_from(parts, class, 1) else {

@@ -38,22 +38,18 @@
 //! | `Amount`, `Counted` | an amount, as `15-17`, or one with a word that says of what |
 //!
 //! No text means no part: `|and|or` is the end, or one of these. A name in capitals stands for a
-//! list of texts (`lists`); `MEASURES` and `ORDERS`, which may be one of several texts, for the
-//! language's own.
+//! list of texts (`lists`); one of `is_text`, which may be one of several texts, for words of the
+//! language's own list.
 
 use crate::rules::amounts::{amount_at, counted_at};
 use crate::rules::lists::{THROUGH, listed};
 use crate::rules::parts::Parts;
 use crate::rules::words::{
-    are_ranks, is, is_call, is_count, is_name, is_number, is_one_of, is_order, is_relation,
-    is_seat, is_suit, is_word, measure_word, number, token_of,
+    are_ranks, is, is_call, is_count, is_name, is_neighbour, is_number, is_one_of, is_order,
+    is_relation, is_seat, is_seat_class, is_suit, is_suit_class, is_word, measure_word, number,
+    token_of,
 };
 use cond_lang::{Class, Kind};
-
-/// The texts of a pattern that stand for the words of all measures and of all orders.
-const MEASURES: &str = "MEASURES";
-
-const ORDERS: &str = "ORDERS";
 
 /// The kinds of tokens that rules ask for.
 static KINDS: [(&str, Kind); 19] = [
@@ -103,11 +99,16 @@ fn is_among(part: &[u8], texts: &str) -> bool {
     texts.split(sign).any(|text| is_text(part, text))
 }
 
-/// Whether the part is the text of a pattern, or a word for which that stands.
+/// Whether the part is the text of a pattern, or a word of the language for which that stands.
 fn is_text(part: &[u8], text: &str) -> bool {
     match text {
-        MEASURES => measure_word(part).is_some(),
-        ORDERS => is_order(part),
+        "MEASURES" => measure_word(part).is_some(),
+        "ORDERS" => is_order(part),
+        "NEIGHBOURS" => is_neighbour(part),
+        "CLASSES" => is_seat_class(part) || is_suit_class(part),
+        "SEAT_CLASSES" => is_seat_class(part),
+        "SUIT_CLASSES" => is_suit_class(part),
+        "SUITS" => is_suit(part) || is_suit_class(part),
         _ => is(part, text),
     }
 }

@@ -3,13 +3,7 @@
 use crate::rules::lists::BINDS;
 use crate::rules::outside::closing;
 use crate::rules::parts::Parts;
-use crate::rules::words::{is, is_one_of, is_seat};
-
-/// The classes of seats, which stand for one where a class is bound.
-const CLASSES: &str = "seat ns ew";
-
-/// The words that with a seat in brackets are a seat.
-const NEIGHBOURS: &str = "partner left right";
+use crate::rules::words::{is, is_neighbour, is_seat, is_seat_class};
 
 /// The seat that begins with the part after a bracket, or is in front of the part; else the last
 /// one before the fault, or North.
@@ -35,9 +29,9 @@ pub(crate) fn seat_at<'t>(parts: &Parts<'t>, i: usize) -> &'t [u8] {
 fn seat_from<'t>(parts: &Parts<'t>, i: usize) -> &'t [u8] {
     let part = parts.at(i);
     let open = i.saturating_add(1);
-    if is_seat(part) || is_one_of(part, CLASSES) && parts.has(BINDS) {
+    if is_seat(part) || is_seat_class(part) && parts.has(BINDS) {
         part
-    } else if is_one_of(part, NEIGHBOURS) && is(parts.at(open), "(") {
+    } else if is_neighbour(part) && is(parts.at(open), "(") {
         neighbour(parts, i, open).unwrap_or(b"")
     } else {
         b""

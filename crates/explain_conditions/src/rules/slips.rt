@@ -1,9 +1,9 @@
 //! Slips in a condition that is accepted: it means something else than a person perhaps thinks.
 
 use crate::rules::kinds::Kinds;
-use crate::rules::lists::{CLASSES, THROUGH};
+use crate::rules::lists::THROUGH;
 use crate::rules::parts::Parts;
-use crate::rules::words::{depth_after, is, is_one_of, is_short_line, number};
+use crate::rules::words::{depth_after, is, is_one_of, is_short_line, is_suit_class, number};
 use itoa::Buffer;
 use std::alloc::{AllocError, Global};
 
@@ -77,7 +77,7 @@ fn unnamed(alloc: Global, parts: &Parts, start: usize) -> Result<Option<String>,
 /// Whether the class is named before the bracket that closes this one; `other` counts for a class
 /// of suits, whose suit it leaves out.
 fn has_class(parts: &Parts, open: usize, class: &[u8]) -> bool {
-    let other = is_one_of(class, CLASSES);
+    let other = is_suit_class(class);
     let mut depth: usize = 0;
     for i in open..parts.count() {
         let part = parts.at(i);

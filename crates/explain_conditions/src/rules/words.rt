@@ -1,6 +1,6 @@
 //! What a part is by itself.
 
-use cond_lang::{Token, WORDS};
+use cond_lang::{Class, Token, WORDS};
 
 /// Whether the part reads so.
 pub(crate) fn is(part: &[u8], text: &str) -> bool {
@@ -44,11 +44,29 @@ pub(crate) fn is_call(part: &[u8]) -> bool {
 }
 
 pub(crate) fn is_seat(part: &[u8]) -> bool {
-    is_one_of(part, "north east south west")
+    matches!(token_of(part), Some(Token::Seat(_)))
 }
 
 pub(crate) fn is_suit(part: &[u8]) -> bool {
-    is_one_of(part, "spades hearts diamonds clubs")
+    matches!(token_of(part), Some(Token::Suit(_)))
+}
+
+/// Whether the part is a class of seats.
+pub(crate) fn is_seat_class(part: &[u8]) -> bool {
+    matches!(
+        token_of(part),
+        Some(Token::Class(Class::Seat | Class::NorthSouth | Class::EastWest))
+    )
+}
+
+/// Whether the part is a class of suits, or what stands for the others in their brackets.
+pub(crate) fn is_suit_class(part: &[u8]) -> bool {
+    matches!(token_of(part), Some(Token::Class(_))) && !is_seat_class(part)
+}
+
+/// Whether the part is a word that with a seat in brackets is a seat.
+pub(crate) fn is_neighbour(part: &[u8]) -> bool {
+    matches!(token_of(part), Some(Token::Neighbour(_)))
 }
 
 pub(crate) fn is_relation(part: &[u8]) -> bool {

@@ -1,8 +1,8 @@
 //! What is in the brackets after a word: seat, suit, ranks.
 
 pub(crate) const RULES: &str = "
-    Can:Open Cannot:Not partner|left|right ^ Seat => write \"%b1(%n0)\"
-    Can:Open Cannot:Not partner|left|right ^ => say whose, as in %b1(north)
+    Can:Open Cannot:Not NEIGHBOURS ^ Seat => write \"%b1(%n0)\"
+    Can:Open Cannot:Not NEIGHBOURS ^ => say whose, as in %b1(north)
     Can:Open Cannot:Not ^ Seat => write \"%b1(%n0%e1\"
     Can:Open Cannot:Not ^ => say whose, as in %b1(%u0%e1
 

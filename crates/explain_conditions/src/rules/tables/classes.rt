@@ -20,27 +20,27 @@ pub(crate) const RULES: &str = "
     any|every ^ Named:opponent|opponents|opp|opps => \
         for east and west write \"%b1 ew\", as in %b1 ew (hcp(ew)>=12)
     any|every ^ Seat => a seat alone is named in a test, as in hcp(%n0)>=12
-    any|every ^ seat|ns|ew => \
+    any|every ^ SEAT_CLASSES => \
         %n0 stands for a seat here already: begin this test after the bracket
     any|every ^ Suit => a suit alone is named in a test, as in len(north,%n0)>=5
-    any|every ^ suit|major|minor|other => \
+    any|every ^ SUIT_CLASSES => \
         %n0 stands for a suit here already: begin this test after the bracket
     Can:SuitClass any|every ^ Except:suits|majors|minors|seats => \
         say of what, as in %b1 suit (len(north,suit)>=5)
     Can:Open Cannot:Not any|every other ^ suit|suits|major|minor => \
         leave \"%n0\" out, and write other for it in the brackets
-    Can:Open Cannot:Not any|every ANY_CLASS ^ => with the test in brackets write: %b2 %b1 (%o0)
-    Can:Open Cannot:Not any|every suit|major|minor|other ^ => \
+    Can:Open Cannot:Not any|every CLASSES ^ => with the test in brackets write: %b2 %b1 (%o0)
+    Can:Open Cannot:Not any|every SUIT_CLASSES ^ => \
         say what in brackets, as in %b2 %b1 (len(north,%b1)>=5)
-    Can:Open Cannot:Not any|every seat|ns|ew ^ => \
+    Can:Open Cannot:Not any|every SEAT_CLASSES ^ => \
         say what in brackets, as in %b2 %b1 (hcp(%b1)>=12)
     ORDERS ^ suit ( Seat ) => write \"%b1(%n2)\"
     any|every suit|major|minor ( ^ Seat ) => for its length write: %b3 %b2 (len(%n0,%b2)%a2)
     NotInCall ^ suit|major|minor ( Seat ) <|<= => for each %n0 write: every %n0 (len(%n2,%n0)%a4)
     NotInCall ^ suit|major|minor ( Seat ) => for some %n0 write: any %n0 (len(%n2,%n0)%a4)
     NotInCall ^ suit ( Seat , Suit ) => for a suit's length write \"len(%n2,%n4)\"
-    any|every ANY_CLASS ^ : => with the test in brackets write: %b2 %b1 (%o1)
-    any|every suit|major|minor|other ^ : => say what in brackets, as in %b2 %b1 (len(north,%b1)>=5)
+    any|every CLASSES ^ : => with the test in brackets write: %b2 %b1 (%o1)
+    any|every SUIT_CLASSES ^ : => say what in brackets, as in %b2 %b1 (len(north,%b1)>=5)
     NotInCall ^ some|either suit|major|minor => \
         for some %n1 write \"any %n1\", as in any %n1 (len(north,%n1)>=5)
     NotInCall ^ all|each|both suit|major|minor => \

@@ -18,6 +18,6 @@ pub(crate) const RULES: &str = "
     Seat ^ HOLDS no void => with the seat in brackets write: shortest(%b1)>=1
     Seat ^ HOLDS Number card|cards in Suit => with the seat in brackets write: len(%b1,%n4)==%n1
     Seat ^ HOLDS => begin with what you ask of the seat, as in hcp(%b1)>=15
-    partner|left|right ^ HOLDS => \
+    NEIGHBOURS ^ HOLDS => \
         begin with what you ask of the seat, as in hcp(%b1(north))>=15
 ";

@@ -72,9 +72,9 @@ pub(crate) const RULES: &str = "
         for the seat before north write right(north), as in %w0(right(north)%e0
     InCall ( ^ Named:partner|partners|pard => \
         for the seat across from north write partner(north), as in %w0(partner(north)%e0
-    Can:Not NotInCall ^ partner|left|right => \
+    Can:Not NotInCall ^ NEIGHBOURS => \
         begin with what you ask of the seat, as in hcp(%n0(north))>=15
-    NotInCall ^ partner|left|right => begin with what you ask of the seat, as in hcp(%n0(north))
+    NotInCall ^ NEIGHBOURS => begin with what you ask of the seat, as in hcp(%n0(north))
     Can:NorthSouthClass InCall ( ^ seat => in these brackets write \"ns\"
     Can:EastWestClass InCall ( ^ seat => in these brackets write \"ew\"
     InCall ( ^ seat => \
