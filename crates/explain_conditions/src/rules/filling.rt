@@ -5,9 +5,9 @@
 //!
 //! | Placeholder | What it means |
 //! |---|---|
-//! | `%uN` | the seat that begins with `%nN` after a bracket, as `partner(north)`, or is in front |
-//! | | of it, else the last seat before the fault, or `north`: `%u2` fits `word(seat` and |
-//! | | `word seat` |
+//! | `%uN` | the seat that begins with `%nN` after a bracket or `in`, as `partner(north)`, or is |
+//! | | in front of it, else the last seat before the fault, or `north`: `%u2` fits `word(seat`, |
+//! | | `word in seat` and `word seat`; of a class that means no seat there any goes through it |
 //! | `%mN` | the part with the fault in small letters |
 //! | `%zN` | the number `%nN` without zeros in front |
 //! | `%iN` | the number `%bN` and one more |
@@ -33,7 +33,7 @@ use crate::rules::parts::Parts;
 use crate::rules::rule::{fits, without_zeros};
 use crate::rules::samples::{comparison, sample};
 use crate::rules::seats::seat_at;
-use crate::rules::words::{is, is_one_of, is_suit_class, number};
+use crate::rules::words::{is, is_one_of, is_seat_class, is_suit_class, number};
 use cond_lang::{CondError, Token, WORDS, parse};
 use conditions::Cond;
 use itoa::Buffer;
@@ -77,10 +77,57 @@ pub fn suggested(hint: &[u8]) -> Option<&[u8]> {
 /// The hint with the parts in it, if they are there, and it suggests nothing that is refused.
 fn filled(alloc: Global, parts: &Parts, hint: &str) -> Said {
     let mut out = Vec::new(alloc);
-    if !put_hint(&mut out, parts, hint)? || !is_sound(alloc, parts, out.as_slice())? {
+    if !put_hint(&mut out, parts, hint)? {
+        return Ok(None);
+    }
+    if hint.contains("%u")
+        && let Some(test) = suggested(out.as_slice()).or(example(out.as_slice()))
+        && let Some(class) = unbound_class(alloc, parts, test)?
+    {
+        return through(alloc, out.as_slice(), class, test);
+    }
+    if !is_sound(alloc, parts, out.as_slice())? {
         return Ok(None);
     }
     in_place(alloc, parts, out)
+}
+
+/// What follows `as in` in a hint, if anything does.
+fn example(hint: &[u8]) -> Option<&[u8]> {
+    for i in 0..hint.len() {
+        if begins_at(hint, i, b"as in ") {
+            return hint.get(i.saturating_add(6)..);
+        }
+    }
+    None
+}
+
+/// The class of seats that the test names, and that means no seat at the fault, if there is one.
+fn unbound_class(
+    alloc: Global,
+    parts: &Parts,
+    test: &[u8],
+) -> Result<Option<&'static str>, AllocError> {
+    if is_accepted(alloc, test)? {
+        return Ok(None);
+    }
+    for (class, _) in WORDS.iter() {
+        if is_seat_class(class.as_bytes())
+            && !parts.is_bound(class.as_bytes())
+            && is_accepted(alloc, within(alloc, class, test)?.as_slice())?
+        {
+            return Ok(Some(*class));
+        }
+    }
+    Ok(None)
+}
+
+/// The hint with the test that it suggests, or has as an example, in the brackets of its class.
+fn through(alloc: Global, hint: &[u8], class: &str, test: &[u8]) -> Said {
+    let (before, _) = hint.split_at(hint.len().saturating_sub(test.len()));
+    let said = b"any is for some seat, every for each; ";
+    let told = within(alloc, class, test)?;
+    joined(alloc, &[said, before, told.as_slice()])
 }
 
 /// Appends the hint with the parts in it, if they are there.
@@ -180,15 +227,20 @@ fn is_accepted_in(alloc: Global, parts: &Parts, condition: &[u8]) -> Result<bool
 pub fn read_within(alloc: Global, test: &[u8]) -> Result<Option<Cond>, AllocError> {
     for (class, token) in WORDS.iter() {
         if matches!(token, Token::Class(_)) {
-            let mut text = Vec::new(alloc);
-            put_all(&mut text, &[b"any ", class.as_bytes(), b" (", test, b")"])?;
-            let found = read(alloc, text.as_slice())?;
+            let found = read(alloc, within(alloc, class, test)?.as_slice())?;
             if found.is_some() {
                 return Ok(found);
             }
         }
     }
     Ok(None)
+}
+
+/// The condition that some suit or seat of the class meets the test.
+fn within(alloc: Global, class: &str, test: &[u8]) -> Result<Vec<u8>, AllocError> {
+    let mut out = Vec::new(alloc);
+    put_all(&mut out, &[b"any ", class.as_bytes(), b" (", test, b")"])?;
+    Ok(out)
 }
 
 /// Whether the language has the condition.

@@ -230,6 +230,23 @@ impl<'t> Parts<'t> {
         false
     }
 
+    /// Whether the fault is in brackets in which the class means a seat: those of an `any` or
+    /// `every`, or of what a name with it stands for; or after these words, if the bracket isn't
+    /// there.
+    pub(crate) fn is_bound(&self, class: &[u8]) -> bool {
+        for open in 3..self.fault.saturating_add(1) {
+            let binds = if is(self.at(open - 1), "is") {
+                self.at(open - 3) == class || self.at(open.saturating_sub(5)) == class
+            } else {
+                self.at(open - 1) == class && is_one_of(self.at(open - 2), THROUGH)
+            };
+            if binds && (!is(self.at(open), "(") || self.is_open_at_fault(open)) {
+                return true;
+            }
+        }
+        false
+    }
+
     /// Whether this bracket isn't closed before the fault.
     fn is_open_at_fault(&self, open: usize) -> bool {
         let mut depth: usize = 0;

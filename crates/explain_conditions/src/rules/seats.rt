@@ -1,18 +1,17 @@
 //! The seat that a hint repeats, as it is written.
 
-use crate::rules::lists::BINDS;
 use crate::rules::outside::closing;
 use crate::rules::parts::Parts;
-use crate::rules::words::{is, is_neighbour, is_seat, is_seat_class};
+use crate::rules::words::{is, is_neighbour, is_one_of, is_seat, seat_word};
 
-/// The seat that begins with the part after a bracket, or is in front of the part; else the last
-/// one before the fault, or North.
+/// The seat that begins with the part after a bracket or a word as `in`, or is in front of the
+/// part; else the last one before the fault, or North.
 pub(crate) fn seat_at<'t>(parts: &Parts<'t>, i: usize) -> &'t [u8] {
     let before = parts.at(i.saturating_sub(1));
     if is_seat(before) {
         return before;
     }
-    let seat: &[u8] = if is(before, "(") {
+    let seat: &[u8] = if is_one_of(before, "( in of with for") {
         seat_from(parts, i)
     } else {
         b""
@@ -24,17 +23,15 @@ pub(crate) fn seat_at<'t>(parts: &Parts<'t>, i: usize) -> &'t [u8] {
     }
 }
 
-/// The seat that begins with the part: one of the four, a class that is bound, or a neighbour.
-/// Nothing, if none does.
+/// The seat that begins with the part: one of the four or a class, as `seat_word` reads it, or a
+/// neighbour. Nothing, if none does.
 fn seat_from<'t>(parts: &Parts<'t>, i: usize) -> &'t [u8] {
     let part = parts.at(i);
     let open = i.saturating_add(1);
-    if is_seat(part) || is_seat_class(part) && parts.has(BINDS) {
-        part
-    } else if is_neighbour(part) && is(parts.at(open), "(") {
+    if is_neighbour(part) && is(parts.at(open), "(") {
         neighbour(parts, i, open).unwrap_or(b"")
     } else {
-        b""
+        seat_word(part).map_or(b"", |word| word.as_bytes())
     }
 }
 

@@ -59,6 +59,23 @@ pub(crate) fn is_seat_class(part: &[u8]) -> bool {
     )
 }
 
+/// The word of a seat, or of a class of seats, that the part is in letters of any size; of a seat
+/// its first letter will do.
+pub(crate) fn seat_word(part: &[u8]) -> Option<&'static str> {
+    let (word, _) = WORDS
+        .iter()
+        .find(|(word, _)| is_seat_word(word.as_bytes(), part))?;
+    Some(*word)
+}
+
+fn is_seat_word(word: &[u8], part: &[u8]) -> bool {
+    let begins = word
+        .get(..part.len())
+        .is_some_and(|first| first.eq_ignore_ascii_case(part));
+    let is_short = part.len() == 1 && is_seat(word);
+    begins && (is_short || part.len() == word.len()) && (is_seat(word) || is_seat_class(word))
+}
+
 /// Whether the part is a class of suits, or what stands for the others in their brackets.
 pub(crate) fn is_suit_class(part: &[u8]) -> bool {
     matches!(token_of(part), Some(Token::Class(_))) && !is_seat_class(part)
