@@ -11,6 +11,7 @@
 
 mod amounts;
 mod bounds;
+mod card;
 mod filling;
 mod hint;
 mod joined;

@@ -9,6 +9,7 @@
 //! | | in front of it, else the last seat before the fault, or `north`: `%u2` fits `word(seat`, |
 //! | | `word in seat` and `word seat`; of a class that means no seat there any goes through it |
 //! | `%mN` | the part with the fault in small letters |
+//! | `%pN`, `%qN` | the card `%nN`, as `spades,a`; the letter of the rank that `%nN` names |
 //! | `%zN` | the number `%nN` without zeros in front |
 //! | `%iN` | the number `%bN` and one more |
 //! | `%dN`, `%gN` | the digits of `%bN` or of `%nN`, with dashes between them |
@@ -26,6 +27,7 @@
 //! | `%l0`, `%l1` | the words of all measures, of all orders, each with a comma and a blank |
 
 use crate::rules::amounts::{Amount, amount_at, counted_at, ordered};
+use crate::rules::card::{card_of, rank_of};
 use crate::rules::hint::Said;
 use crate::rules::lists::{BINDS, ENDS, STARTS};
 use crate::rules::outside::tests_that_name;
@@ -279,6 +281,7 @@ fn put(out: &mut Vec<u8>, parts: &Parts, kind: u8, n: usize) -> Result<bool, All
         b'a' | b'x' => put_amount(out, amount_at(parts, next)),
         b'f' => put_range(out, parts.at(parts.fault.saturating_sub(1)), parts.at(next)),
         b'r' => put_range(out, parts.at(parts.fault.saturating_add(1)), parts.at(next)),
+        b'p' => put_card(out, parts.at(next)),
         b'd' => put_dashed(out, parts.at(back)),
         b'g' => put_dashed(out, parts.at(next)),
         b'i' => put_number(out, number(parts.at(back)).saturating_add(1)),
@@ -296,6 +299,7 @@ fn text_of<'t>(parts: &'t Parts, kind: u8, back: usize, next: usize) -> &'t [u8]
         b'u' => seat_at(parts, next),
         b'm' => parts.word.as_slice(),
         b'w' => parts.call(),
+        b'q' => rank_of(parts.at(next)).as_bytes(),
         b'z' => without_zeros(parts.at(next)),
         b'c' => comparison(parts, back).as_bytes(),
         b't' if is(parts.at(back), "!=") => b"not ",
@@ -357,6 +361,14 @@ fn put_amount(out: &mut Vec<u8>, amount: Option<Amount>) -> Result<(), AllocErro
 fn put_range(out: &mut Vec<u8>, one: &[u8], other: &[u8]) -> Result<(), AllocError> {
     let (low, high) = ordered(one, other);
     put_all(out, &[low, b"-", high])
+}
+
+/// Appends the card's suit and its rank, if it is one.
+fn put_card(out: &mut Vec<u8>, part: &[u8]) -> Result<(), AllocError> {
+    match card_of(part) {
+        Some((suit, rank)) => put_all(out, &[suit.as_bytes(), b",", &[rank]]),
+        None => Ok(()),
+    }
 }
 
 /// Appends the digits with dashes between them.

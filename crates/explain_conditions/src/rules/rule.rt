@@ -21,6 +21,7 @@
 //! | `Length` | a number, or `x` |
 //! | `Above`, `Follows` | a number above that of two parts before, or the one after it |
 //! | `Relation`, `Seat`, `Suit`, `Word` | what they say |
+//! | `Card`, `Rank` | a card, as `AS` or `sa`; the name of a rank, as `ace` |
 //! | `Known`, `Name` | a word of the language; one that is neither that nor ranks |
 //! | `InName` | the fault is in the brackets of such a word |
 //! | `Later` | a word that the text gives as a name further on |
@@ -42,6 +43,7 @@
 //! language's own list.
 
 use crate::rules::amounts::{amount_at, counted_at};
+use crate::rules::card::{card_of, rank_of};
 use crate::rules::lists::{THROUGH, listed};
 use crate::rules::parts::Parts;
 use crate::rules::words::{
@@ -108,6 +110,7 @@ fn is_text(part: &[u8], text: &str) -> bool {
         "CLASSES" => is_seat_class(part) || is_suit_class(part),
         "SEAT_CLASSES" => is_seat_class(part),
         "SUIT_CLASSES" => is_suit_class(part),
+        "SEATS" => is_seat(part) || is_seat_class(part),
         "SUITS" => is_suit(part) || is_suit_class(part),
         _ => is(part, text),
     }
@@ -167,12 +170,14 @@ fn is_wanted(parts: &Parts, i: usize, word: &str) -> bool {
     }
 }
 
-/// The same of what is wanted of a part's letters, or of the parts before it.
+/// The same of what is wanted of a part's letters, of a card, or of the parts before it.
 fn is_wanted_beside(parts: &Parts, i: usize, word: &str) -> bool {
     let (name, texts) = word.split_once(':').unwrap_or((word, ""));
     let part = parts.at(i);
     match name {
         "Above" => is_number(part) && number(parts.at(i.saturating_sub(2))) < number(part),
+        "Card" => card_of(part).is_some(),
+        "Rank" => !rank_of(part).is_empty(),
         "Zeros" => is_number(part) && without_zeros(part).len() <= 4,
         "Follows" => is_next(parts.at(i.saturating_sub(2)), part),
         "Suffix" => is(part, texts) && parts.is_suffix(i),

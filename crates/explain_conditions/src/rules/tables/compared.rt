@@ -1,4 +1,4 @@
-//! Comparisons in words, as `more than`.
+//! Comparisons in words, as `more than`, and what a seat has.
 
 pub(crate) const RULES: &str = "
     ^ more|greater|higher|larger than => for \"%n0 than\" write \">\"
@@ -17,6 +17,9 @@ pub(crate) const RULES: &str = "
     Seat ^ HOLDS at least Number POINTS => with the seat in brackets write: hcp(%b1)>=%n3
     Seat ^ HOLDS no void => with the seat in brackets write: shortest(%b1)>=1
     Seat ^ HOLDS Number card|cards in Suit => with the seat in brackets write: len(%b1,%n4)==%n1
+    Seat ^ HOLDS Card => with the seat in brackets write: cards(%b1,%p1)==1
+    Seat ^ HOLDS Rank of Suit => with the seat in brackets write: cards(%b1,%n3,%q1)==1
+    Seat ^ HOLDS the Rank of Suit => with the seat in brackets write: cards(%b1,%n4,%q2)==1
     Seat ^ HOLDS => begin with what you ask of the seat, as in hcp(%b1)>=15
     NEIGHBOURS ^ HOLDS => \
         begin with what you ask of the seat, as in hcp(%b1(north))>=15

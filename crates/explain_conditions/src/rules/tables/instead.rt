@@ -59,6 +59,7 @@ pub(crate) const RULES: &str = "
     ^ tricks => for eight tricks ask for few losers, as in losers(north)<=5
     ^ fit => for a fit add lengths up, as in len(north,spades)+len(south,spades)
     ^ Named:PEOPLE => name the seat: north, east, south or west
+    ^ has|hascard|hascards|holds ( Seat , Card ) => for a single card write: cards(%n2,%p4)==1
     ^ has|hascard|hascards|holds ( => \
         for single cards write cards with a suit and ranks, as in cards(north,spades,a)
 ";

@@ -22,6 +22,7 @@ pub(crate) const RULES: &str = "
     NotInCall Seat ^ : Number + POINTS Except:( => \
         with the seat in brackets write: hcp(%b1)>=%n1
     NotInCall Seat ^ : balanced => with the seat in brackets write: balanced(%b1)
+    NotInCall Seat ^ : Card => with the seat in brackets write: cards(%b1,%p1)==1
     NotInCall Seat ^ : Counted => with the seat in brackets write: %k1(%b1%s1)%a1
     balanced ( Seat ) ^ plus => write \"and\"
     balanced ( Seat ^ , Amount => with a test for the points write: balanced(%b1) and hcp(%b1)%a1

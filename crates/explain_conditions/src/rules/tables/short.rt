@@ -1,8 +1,7 @@
 //! Voids, singletons and doubletons, of a hand and of a suit.
 
 pub(crate) const RULES: &str = "
-    ^ no ace|aces|king|kings|queen|queens|jack|jacks|ten|tens => \
-        for none write cards with ranks and ==0, as in cards(%u3,a)==0
+    ^ no Rank => for none write cards with ranks and ==0, as in cards(%u3,%q1)==0
     ^ no Suit => for no %n1 write: len(%u1,%n1)==0
     ^ no void|voids|singleton|singletons or|and void|voids|singleton|singletons => \
         for neither write: shortest(%u5)>=2
