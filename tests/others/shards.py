@@ -188,20 +188,33 @@ def known(_):
             yield f"{script.name}, a hyphen in front", None if right else str(run)
 
 
+# Options, a count and a program with which a search is refused, its status, and what is said.
+REFUSED = [
+    (["--where", "hcp(nord)>3"], "20", harness.PROGRAM, 3, b"condition refused at byte 4"),
+    (["--boardz", "3"], "20", harness.PROGRAM, 2, b"unexpected argument '--boardz'"),
+    (["--boards", "3"], "20", harness.PROGRAM, 2, b"leave --boards out"),
+    # There are 2 to the power of 40 candidates.
+    ([], "1099511627777", harness.PROGRAM, 2, b"plan refused: range\n"),
+    ([], "20", "no-such-program", 127, b"not found"),
+]
+
+
 def refused(_):
-    """Options that deals refuses, or no deals at all, leave no file of a search; what is there stays as it is."""
-    for said, options, program in (
-        (b"condition refused", ["--where", "hcp(nord)>3"], str(harness.PROGRAM)), (b"not found", [], "no-such-program"),
-    ):
-        with tempfile.TemporaryDirectory(prefix="refused-") as folder:
-            settings = {"env": {**os.environ, "DEALS": program}, "capture_output": True, "check": False}
-            for there in ({}, {"found": b""}):
-                for name, text in there.items():
-                    (pathlib.Path(folder) / name).write_bytes(text)
-                run = subprocess.run(["sh", str(RESUME), f"{folder}/found", "20", *SEED, *options], **settings)
-                left = {file.name: file.read_bytes() for file in pathlib.Path(folder).iterdir()}
-                right = run.returncode in (3, 127) and said in run.stderr and left == there
-                yield f"resume, refused {options}, {there}", None if right else f"{run}, {left}"
+    """What is refused, also for want of deals, leaves no file and no folder; what is there stays."""
+    for options, count, program, status, said in REFUSED:
+        settings = {"env": {**os.environ, "DEALS": str(program)}, "capture_output": True, "check": False}
+        for script, numbers in ((RESUME, [count]), (SHARD, ["0", count])):
+            for is_there in (False, True):
+                with tempfile.TemporaryDirectory(prefix="refused-") as folder:
+                    found = pathlib.Path(folder) / "found"
+                    if is_there:
+                        found.mkdir() if script == SHARD else found.touch()
+                    before = sorted(pathlib.Path(folder).rglob("*"))
+                    words = ["sh", str(script), str(found), *numbers, *SEED, *options]
+                    run = subprocess.run(words, **settings)
+                    left = sorted(pathlib.Path(folder).rglob("*"))
+                right = (run.returncode, left) == (status, before) and said in run.stderr
+                yield f"{script.name}, refused {options} {count}, {is_there}", None if right else f"{run}, {left}"
 
 
 def stopped(deals):
