@@ -198,6 +198,24 @@ def ended(number):
         yield f"{number.name}: no run is left", until(lambda: all(map(has_ended, runs)), 1)
 
 
+# A solver that writes two boards, and is ended by a signal.
+BROKEN_OFF = f'#!/bin/sh\n"{serving.TRICKS}" "$@" --boards=2\nkill -s %s $$\n'
+# The signals, with the status of the page and what it has.
+SIGNALS = [("KILL", 500, "<code>deals-tricks</code>"), ("SEGV", 500, "broke off"), ("PIPE", 200, "<h2>2</h2>")]
+
+
+def broken_off():
+    """A solver that a signal ends gives no page with some of the boards, unless the page needs no more."""
+    for sign, status, said in SIGNALS:
+        with harness.scratch() as folder:
+            solver = pathlib.Path(folder) / "deals-tricks"
+            solver.write_text(BROKEN_OFF % sign)
+            solver.chmod(0o755)
+            with serving.desk(tricks=solver) as desk:
+                answer = desk.post("/tonight/tricks", {"seed": "1", "boards": "9"})
+        yield f"a solver that ends by {sign}", answer.status == status and said in answer.text
+
+
 PARTS = (foreign, nasty_fields, too_many_boards, nasty_bodies, many, endless, idle, ended_searches)
 
 
@@ -210,5 +228,6 @@ def refused():
         left = os.listdir(folder)
         yield "no file is left", f"{left}" if left else None
     yield from report.judged(first_pages())
+    yield from report.judged(broken_off())
     for number in (signal.SIGTERM, signal.SIGHUP, signal.SIGINT):
         yield from report.judged(ended(number))

@@ -77,10 +77,10 @@ class Desk:
 
 
 @contextlib.contextmanager
-def desk(*words, program=DESK, before=(), folder=None):
+def desk(*words, program=DESK, before=(), folder=None, tricks=TRICKS):
     """A server, which ends at the end. `before` are words before its own, as of taskset; its files are in the folder, if
-    one is given."""
-    settings = {**os.environ, "DEALS": str(harness.PROGRAM), "DEALS_TRICKS": str(TRICKS)}
+    one is given; it runs `tricks` as its solver."""
+    settings = {**os.environ, "DEALS": str(harness.PROGRAM), "DEALS_TRICKS": str(tricks)}
     settings |= {"TMPDIR": folder} if folder else {}
     process = subprocess.Popen(
         [*before, PYTHON, program, "--port", "0", "--no-browser", *words], env=settings, stderr=subprocess.PIPE, text=True,

@@ -10,7 +10,7 @@ from .desk import Desk, Refused, checked, page
 from .guard import FAULT_POLICY, Guard
 from .limits import BODY
 from .nights import Nights
-from .runs import Busy, Left, Missing, Runner, TooLarge, TooLong
+from .runs import Broken, Busy, Left, Missing, Runner, TooLarge, TooLong
 from .searches import Searches
 from .words import DEALS, Command
 
@@ -20,6 +20,7 @@ FAULTS: dict[type[Exception], tuple[int, str, str]] = {
     Missing: (503, "A program is missing", "Install the package of this name, and start deals-desk anew."),
     TooLong: (504, "This takes longer than a page can wait", "Ask for less. Rare hands are for the page Long search."),
     TooLarge: (413, "This is more than a page can hold", "Ask for fewer boards, or run the command yourself."),
+    Broken: (500, "A program broke off", "It may not have written all. Try it again, or run the command yourself."),
     Left: (503, "Nobody waited", "The browser left before the boards were there."),
 }
 

@@ -5,6 +5,7 @@ import dataclasses
 import os
 import select
 import shutil
+import signal
 import subprocess
 import tempfile
 import threading
@@ -44,6 +45,10 @@ class Left(Exception):
     """Nobody waits for the run any more."""
 
 
+class Broken(Exception):
+    """A program that a signal ended, so that it may not have written all."""
+
+
 @dataclasses.dataclass(frozen=True)
 class Ended:
     """How a run ended. `said` is what was said on standard error by the program that the status is of."""
@@ -64,6 +69,7 @@ class Pipeline:
     """Programs that run, each with the output of the one before it."""
 
     def __init__(self, command: Command, programs: dict[str, str], given: bytes = b"") -> None:
+        self.command = command
         self.processes: list[subprocess.Popen[bytes]] = []
         self.saids: list[IO[bytes]] = []
         # The first program reads a file, which needs no thread that feeds it.
@@ -99,14 +105,14 @@ class Pipeline:
             process.wait()
 
     def ended(self, output: bytes) -> Ended:
-        """How it ended, after the last one wrote all: by the first program that refused something. What still runs then
-        has lost its reader, and is ended."""
-        self.processes[-1].wait()
-        for process in self.processes[:-1]:
-            end_soon(process)
-        statuses = [process.returncode for process in self.processes]
-        refused = [place for place, status in enumerate(statuses) if is_refusal(status)]
-        told = refused[0] if refused else len(statuses) - 1
+        """How it ended, after the last one wrote all: by the first program that refused something or broke off. What
+        still runs then has lost its reader, and is ended."""
+        last = self.processes[-1].wait()
+        statuses = [*map(end_soon, self.processes[:-1]), last]
+        failed = [place for place, status in enumerate(statuses) if has_failed(status)]
+        told = failed[0] if failed else len(statuses) - 1
+        if statuses[told] < 0:
+            raise Broken(self.command.steps[told][0])
         return Ended(statuses[told], output, self.said_by(told))
 
     def said_by(self, place: int) -> str:
@@ -122,21 +128,24 @@ class Pipeline:
 
 
 ENVIRONMENT = {"PATH": "/usr/local/bin:/usr/bin:/bin", "LC_ALL": "C.UTF-8"}
-# The output failed because the next program needs no more, or a signal said so: no refusal.
+# The output failed because the next program needs no more: no failure.
 OUTPUT_FAILED = 4
 
 
-def end_soon(process: subprocess.Popen[bytes]) -> None:
-    """Waits a little for a program that is about to end, and ends it."""
+def end_soon(process: subprocess.Popen[bytes]) -> int:
+    """The status of a program whose reader has ended. One that goes on for more than a little is ended: it would have
+    found that its output fails."""
     try:
-        process.wait(GRACE)
+        status = process.wait(GRACE)
     except subprocess.TimeoutExpired:
         process.kill()
         process.wait()
+        return OUTPUT_FAILED
+    return OUTPUT_FAILED if status == -signal.SIGPIPE else status
 
 
-def is_refusal(status: int) -> bool:
-    return status > 0 and status != OUTPUT_FAILED
+def has_failed(status: int) -> bool:
+    return status not in (0, OUTPUT_FAILED)
 
 
 def read_all(output: IO[bytes], most: int, seconds: float, is_left: Callable[[], bool]) -> bytes:
