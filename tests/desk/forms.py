@@ -57,19 +57,34 @@ def marked():
         yield text, (answer.field, found, answer.mended) == (field, fault, mended)
 
 
+# A field, and a value of it that is refused.
+REFUSED = [
+    ("seed", "x"), ("boards", "0"), ("first_board", "-1"), ("north", "AKQ"), ("event", '"'), ("date", "today"),
+    ("vulnerable", "Nobody"), ("candidates", "9999999999999"), ("candidates", "1e6"), ("first", "9999999999999"),
+    ("first", "x"), ("show", "all four"), ("points", "no"),
+]
+
+
 def named():
-    """The field that each refusal of an option belongs to."""
-    rows = [
-        ("seed", "x"), ("boards", "0"), ("first_board", "-1"), ("north", "AKQ"), ("event", '"'), ("date", "today"),
-        ("vulnerable", "Nobody"), ("candidates", "9999999999999"),
-    ]
-    for name, value in rows:
-        option = fields.BY_NAME[name].option
-        ended = harness.deals("make", "--seed=1", "--candidates=1", f"{option}={value}")
-        yield f"{option}={value}", answers.read(ended.stderr.decode(), {}).field == name
+    """The field that each refusal of an option belongs to, which is told by its label."""
+    for name, value in REFUSED:
+        field = fields.BY_NAME[name]
+        ended = harness.deals("make", "--seed=1", "--candidates=1", "--hints=always", f"{field.option}={value}")
+        answer = answers.read(ended.stderr.decode(), {})
+        said = f"{answer.line}\n{answer.text}"
+        yield f"{field.option}={value}", answer.field == name and f"«{field.label}»" in said and "--" not in said
     for name in ("of", "by"):
         ended = harness.deals("count", "--seed=1", "--candidates=1", "--of=1", f"--{name}=nord")
         yield name, answers.read(ended.stderr.decode(), {name: "nord"}).field == name
+
+
+def hinted():
+    """Hints of mistakes in conditions name no option."""
+    for file in sorted((harness.TOP / "tests" / "rows" / "mistakes").glob("*.txt")):
+        for line in file.read_text().splitlines():
+            if line.startswith("  hint: ") and "--" in line:
+                hint = answers.on_a_page(line)
+                yield f"{line} | {hint}", "--" not in hint
 
 
 def possible():
@@ -124,5 +139,5 @@ def typed():
 
 def words_of_forms():
     yield "types", typed()
-    for part in (told, marked, named, possible, searched, listed):
+    for part in (told, marked, named, hinted, possible, searched, listed):
         yield from report.judged(part())

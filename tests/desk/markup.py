@@ -78,7 +78,8 @@ def boards(desk):
 
 # Numbers of deals that are refused, with what is said of them.
 DEALS_TO_TRY = [
-    ("1e6", "write digits alone"), ("10000000000000", "0 to 1099511627776"), ("1,000", "write digits alone"), ("-3", "a whole number"),
+    ("1e6", "for «Deals to try»"), ("1,000", "write digits alone: «Deals to try» 1000"), ("-3", "a whole number"),
+    ("10000000000000", "«Deals to try» 10000000000000: 0 to 1099511627776"),
 ]
 
 
@@ -89,13 +90,19 @@ def deals_to_try(desk):
         for ask, path in ((desk.get, "/count"), (desk.post, "/search")):
             answer = ask(path, form)
             told = answer.text.partition('id="candidates-refusal"')[2].partition("</div>")[0]
-            yield f"{path}, {number}", answer.status == 422 and said in told and "<iframe" not in answer.text
+            is_told = said in told and "--" not in told
+            yield f"{path}, {number}", answer.status == 422 and is_told and "<iframe" not in answer.text
     answer = desk.post("/search", {"seed": "7", "candidates": "", "boards": "1", "where": "hcp(north)>=20"})
     yield "all deals", answer.status == 303
     answer = desk.get("/count", {"seed": "7", "candidates": "10", "of": "nord"})
     yield "a fault of another field", 'id="of-refusal"' in answer.text
-    answer = desk.post("/search", {"seed": "7", "first": "1099511627776", "candidates": "4", "boards": "1"})
-    yield "a place to begin that is too far", answer.status == 422 and "1099511627776" in answer.text
+    for first, name, said in [
+        ("1099511627776", "candidates", "«Deals to try» 4: 0 to 0 from where it begins"),
+        ("1099511627777", "first", "«Begin at deal» 1099511627777: 0 to 1099511627776"),
+    ]:
+        answer = desk.post("/search", {"seed": "7", "first": first, "candidates": "4", "boards": "1"})
+        told = answer.text.partition(f'id="{name}-refusal"')[2].partition("</div>")[0]
+        yield f"a place to begin that is too far, {first}", answer.status == 422 and said in told
 
 
 # A request for what a page has in a frame.
@@ -120,7 +127,9 @@ def contracts(desk):
     """A contract that can't be read is told at its field, and boards with contracts say that sides turn with hands."""
     form = {"boards": "1", "seed": "7", "where": "len(south,spades)>=6", "makes": "4S-NS"}
     answer = desk.get("/lesson", {**form, "makes": "4s-ns"})
-    yield "a faulty contract", answer.status == 422 and 'id="makes-refusal"' in answer.text and "<iframe" not in answer.text
+    told = answer.text.partition('id="makes-refusal"')[2].partition("</div>")[0]
+    is_told = "«A contract that makes» 4s-ns" in told and "--" not in told
+    yield "a faulty contract", answer.status == 422 and is_told and "<iframe" not in answer.text
     yield "tidy, a faulty contract", not tidied(answer.text)
     yield "its file", desk.get("/lesson/pbn", {**form, "makes": "4s-ns"}).status == 422
     answer = desk.get("/lesson", {**form, "beaten": "3NT-NS 4S-NS"})

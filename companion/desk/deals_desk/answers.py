@@ -5,8 +5,9 @@ import re
 
 from . import fields
 
-# The first lines that name a field, and the field; `\1` is what the line names.
-LINES = (
+# What begins a refusal and names a field, and the field; `\1` is what is named.
+BEGINNINGS = (
+    (re.compile(r"plan refused: range\n  --(first|candidates)\b"), r"\1"),
     (re.compile(r"plan refused: range"), "candidates"),
     (re.compile(r"plan refused: (boards|first board)"), r"\1"),
     (re.compile(r"condition refused\b"), "where"),
@@ -25,13 +26,25 @@ HINT = re.compile(r"^  hint: (.*)$", re.MULTILINE)
 BY_PBN = 'PBN has ASCII letters alone there, without " and \\. Sheets, slips and pages have all letters.'
 # Lines that help only who types commands.
 OF_A_SHELL = ("Usage: ", "For more information, try ")
-# What hints say of a shell, which reads nothing of what is written on a page, and what they say there.
+# What only a command line has, and what is said of it on a page.
 ON_A_PAGE = (
     (re.compile(r"say whose, in quotes, as in '(.*)': the shell takes \( and > for itself"), r"say whose, as in \1"),
     (re.compile(r"in the shell write plain quotes, .* around the whole condition"), "leave the quotes out"),
     (re.compile(r'the text itself goes here; from a file: "\$\(cat FILE\)"'), "the text itself goes here"),
     (re.compile(r'the shell reads a file in double quotes alone: "\$\(cat FILE\)"'), "the text itself goes here"),
+    (re.compile(r"gives such names: --let .*"), "has such names: copy them, and put them first here"),
+    (re.compile(r"of that: --lesson .*"), "of that, to start from on the page Lesson"),
+    (re.compile(r"deals lessons has (.*), as --lesson .*"), r"the page Lesson has \1 to start from"),
+    (re.compile(r"deals count --of"), "the page How often?"),
+    (re.compile(r"deals make \.\. \| deals-tricks (?=--makes)"), ""),
+    (re.compile(r"; to draw one: deals seed"), ""),
+    (re.compile(r"from this --first on"), "from where it begins"),
+    (re.compile(r"--format says"), "a button says"),
+    (re.compile(r"--rotate"), f"«{fields.BY_NAME['turn'].label}: {dict(fields.TURNS)[fields.TURNING]}»"),
 )
+# The option of a field, by itself or with what it takes.
+OPTIONS = "|".join(fields.BY_OPTION)
+OPTION = re.compile(rf"(?<![\w-])(?:'({OPTIONS}) <[A-Z]+>'|({OPTIONS})(?![\w-])(?: <[A-Z]+>)?)")
 # A hint that puts one word or sign in the place of the marked one. One with brackets is for more than what is marked.
 WRITE_WORD = re.compile(r'^write "(\w+|[^\w\s"()\[\]{}]+)"$')
 # A hint that has a whole condition.
@@ -75,10 +88,10 @@ class Answer:
         return dataclasses.asdict(self)
 
 
-def field_of(line: str) -> str:
-    """The field that a first line speaks of; none if it names none."""
-    for pattern, name in LINES:
-        found = pattern.search(line)
+def field_of(said: str) -> str:
+    """The field that a refusal speaks of; none if it names none."""
+    for pattern, name in BEGINNINGS:
+        found = pattern.match(said)
         if found:
             field = found.expand(name).replace("-", "_").replace(" ", "_")
             return field if field in fields.BY_NAME else ""
@@ -142,23 +155,22 @@ def by_pbn(answer: Answer) -> Answer:
 
 
 def on_a_page(said: str) -> str:
-    """What is said, without what only a shell needs."""
+    """What is said, without what only a command line has; a field is called as the page does."""
     for pattern, words in ON_A_PAGE:
         said = pattern.sub(words, said)
-    return said
+    return OPTION.sub(lambda found: f"«{fields.BY_OPTION[found[1] or found[2]].label}»", said)
 
 
-def read(told_all: str, form: dict[str, str]) -> Answer:
+def read(said: str, form: dict[str, str]) -> Answer:
     """What is said of a form."""
-    said = on_a_page(told_all)
+    field = field_of(said)
     lines = said.rstrip().splitlines() or ["no reason was given"]
-    line = lines[0]
-    field = field_of(line)
+    line = on_a_page(lines[0])
     below = [told for told in lines[1:] if not told.startswith(OF_A_SHELL)]
     marks = 2 if MARK.match("".join(below[1:2])) else 0
     excerpt = "\n".join(below[:marks])
-    text = "\n".join(told.strip() for told in below[marks:]).strip("\n")
-    hints = tuple(HINT.findall(said))
+    text = on_a_page("\n".join(told.strip() for told in below[marks:]).strip("\n"))
+    hints = tuple(map(on_a_page, HINT.findall(said)))
     found = PLACE.search(line)
     if not found:
         return Answer(field, line, excerpt, text, hints=hints)

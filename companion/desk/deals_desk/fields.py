@@ -18,11 +18,12 @@ class Kind(enum.Enum):
 
 @dataclasses.dataclass(frozen=True)
 class Field:
-    """A field of a form. `option` is the option of `deals` that its value goes to; none where `words` knows better."""
+    """A field of a form. `option` is the option that its value goes to, of `deals` or `deals-tricks`; for some of them
+    `words` has more to say."""
 
     name: str
     label: str
-    option: str = ""
+    option: str
     kind: Kind = Kind.TEXT
     default: str = ""
     choices: tuple[tuple[str, str], ...] = ()
@@ -31,7 +32,7 @@ class Field:
 
 
 SEATS = ("north", "east", "south", "west")
-# What stands for the options `--rotate` and `--dealer`.
+# What stands for the option `--rotate`, in place of `--dealer`.
 TURNING = "turn"
 
 TURNS = (
@@ -74,7 +75,7 @@ FIELDS = (
           note="A value, such as hcp(south), or a condition."),
     Field("by", "In columns", "--by", Kind.CONDITION, example="hcp(south)",
           note="A second value or condition, or nothing."),
-    Field("turn", "Dealer", "", Kind.CHOICE, TURNING, TURNS),
+    Field("turn", "Dealer", "--dealer", Kind.CHOICE, TURNING, TURNS),
     Field("vulnerable", "Vulnerable", "--vulnerable", Kind.CHOICE, "", VULNERABLE),
     Field("show", "Hands on the page", "--show", Kind.CHOICE, "", SHOWN),
     Field("points", "Points of each hand", "--points", Kind.CHOICE, "", POINTS),
@@ -82,10 +83,11 @@ FIELDS = (
     Field("event", "Event", "--event", example="Club night"),
     Field("site", "Club", "--site", example="Riverside"),
     Field("date", "Date", "--date", example="2026.11.24"),
-    Field("makes", "A contract that makes", example="4S-NS"),
-    Field("beaten", "A contract that is beaten", example="3NT-NS"),
+    Field("makes", "A contract that makes", "--makes", example="4S-NS"),
+    Field("beaten", "A contract that is beaten", "--beaten", example="3NT-NS"),
 )
 BY_NAME = {field.name: field for field in FIELDS}
+BY_OPTION = {field.option: field for field in FIELDS}
 
 LABELS = ("event", "site", "date")
 # The fields of each page, in the order of its words.

@@ -50,15 +50,12 @@ def word(option: str, value: str) -> str:
 def words_of(form: Form, names: Iterable[str]) -> list[str]:
     """The options of these fields; a field that is empty gives none."""
     given = [(fields.BY_NAME[name], form.get(name, "")) for name in names]
-    return [word(field.option, value) for field, value in given if field.option and value]
+    return [word(field.option, value) for field, value in given if value]
 
 
 def turned(form: Form) -> list[str]:
     """The option that says who deals."""
-    turn = form.get("turn", "")
-    if turn == fields.TURNING:
-        return ["--rotate"]
-    return [word("--dealer", turn)] if turn else []
+    return ["--rotate"] if form.get("turn") == fields.TURNING else words_of(form, ("turn",))
 
 
 WHICH = ("seed", "boards", "first", "candidates", "where", *fields.SEATS)
@@ -79,8 +76,8 @@ def find(form: Form, *words: str) -> tuple[str, ...]:
 
 def rules(form: Form) -> list[str]:
     """The rules of the contracts that are named, separated by blanks."""
-    pairs = (("--makes", form.get("makes", "")), ("--beaten", form.get("beaten", "")))
-    return [word(option, contract) for option, text in pairs for contract in text.split()]
+    named = [(fields.BY_NAME[name], form.get(name, "")) for name in ("makes", "beaten")]
+    return [word(field.option, contract) for field, text in named for contract in text.split()]
 
 
 def boards(form: Form, look: Iterable[str]) -> Command:
