@@ -269,6 +269,11 @@ def parts(desk):
     desk.post("/tonight/new", first, headers=own)
     page = desk.get("/", headers=own).text
     yield "the same boards aren't another part", f"Seed {first['seed']}<" not in page and f"Seed {second['seed']}<" in page
+    # As deals itself takes them.
+    signed = {**first, "seed": "+5", "boards": "+3", "first_board": "+1"}
+    yield "numbers with signs", desk.post("/tonight/more", signed, headers=own).status == 303
+    page = desk.get("/", headers=own).text
+    yield "a part with signs", "<p>Seed +5</p>" in page and "Boards 1 to 3, A &amp; B: " in page
     anew = desk.post("/tonight/more", first)
     page = desk.get("/", headers={"Cookie": anew.headers["Set-Cookie"].partition(";")[0]}).text
     yield "a night that was forgotten", f"<p>Seed {first['seed']}</p>" in page

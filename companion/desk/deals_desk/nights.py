@@ -2,6 +2,7 @@
 cookie, no log and no file."""
 
 import dataclasses
+import re
 import secrets
 import threading
 import time
@@ -96,9 +97,14 @@ def came(old: Kept, *parts: Night | None) -> dict[str, str]:
     return {**dict(list(old.came.items())[-MOST_SEEDS:]), **needed}
 
 
+# A number as `deals` takes it.
+NUMBER = re.compile(r"\+?[0-9]+")
+
+
 def is_whole(part: Night) -> bool:
     """Whether it has all numbers: what was refused may have none."""
-    return all(number.isdecimal() for number in (part["seed"], part["boards"], part["first_board"] or "1"))
+    numbers = (part["seed"], part["boards"], part["first_board"] or "1")
+    return all(NUMBER.fullmatch(number) for number in numbers)
 
 
 def first_board(part: Night) -> int:
