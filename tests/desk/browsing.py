@@ -258,6 +258,16 @@ def two_tabs(window, desk):
     yield "tabs: the first's boards", window.downloaded("night.pbn") == before != b""
 
 
+def linked(window, desk):
+    """A link on a page of another site leads to the night that there is."""
+    window.go(desk.address)
+    seed = window.find("[name=seed]").get_attribute("value")
+    window.go(f"data:text/html,<a href='{desk.address}'>tonight</a>")
+    window.find("a").click()
+    window.until(lambda: window.find("h1").text == "Boards for tonight", "the page")
+    yield "a link keeps the night", window.find("[name=seed]").get_attribute("value") == seed
+
+
 def mistake(window, desk):
     window.go(f"{desk.address}/lesson")
     window.write("where", "hcp(nord) in 15-17")
@@ -390,7 +400,7 @@ def by_keyboard(window, desk):
     window.until(lambda: "Stopped" in window.find("[role=status]").text, "the end")
 
 
-WAYS = (tonight, sheet, lesson, handout, one_hand, two_tabs, mistake, back, hands, counted, searched, contracts, by_keyboard)
+WAYS = (tonight, sheet, lesson, handout, one_hand, two_tabs, linked, mistake, back, hands, counted, searched, contracts, by_keyboard)
 
 
 # The ways that need no scripts; a mistake is told without them too, when the form is sent.

@@ -212,7 +212,7 @@ def secret(desk):
     seed = first.text.partition('name="seed" value="')[2].partition('"')[0]
     cookie = first.headers["Set-Cookie"]
     yield "a seed", seed.isdigit()
-    yield "not in the cookie", seed not in cookie and "HttpOnly" in cookie and "SameSite=Strict" in cookie
+    yield "not in the cookie", seed not in cookie and "HttpOnly" in cookie and "SameSite=Lax" in cookie
     yield "not kept", first.headers["Cache-Control"] == "no-store"
     same = desk.get("/", headers={"Cookie": cookie.partition(";")[0]})
     yield "the same night when it is loaded again", f'value="{seed}"' in same.text
