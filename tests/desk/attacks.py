@@ -2,7 +2,9 @@
 requests at once, runs that never end, and clients that never read."""
 
 import concurrent.futures
+import contextlib
 import http.client
+import json
 import os
 import pathlib
 import random
@@ -204,16 +206,35 @@ BROKEN_OFF = f'#!/bin/sh\n"{serving.TRICKS}" "$@" --boards=2\nkill -s %s $$\n'
 SIGNALS = [("KILL", 500, "<code>deals-tricks</code>"), ("SEGV", 500, "broke off"), ("PIPE", 200, "<h2>2</h2>")]
 
 
+@contextlib.contextmanager
+def script(text):
+    """A program that is this script."""
+    with harness.scratch() as folder:
+        program = pathlib.Path(folder) / "program"
+        program.write_text(text)
+        program.chmod(0o755)
+        yield program
+
+
 def broken_off():
     """A solver that a signal ends gives no page with some of the boards, unless the page needs no more."""
     for sign, status, said in SIGNALS:
-        with harness.scratch() as folder:
-            solver = pathlib.Path(folder) / "deals-tricks"
-            solver.write_text(BROKEN_OFF % sign)
-            solver.chmod(0o755)
-            with serving.desk(tricks=solver) as desk:
-                answer = desk.post("/tonight/tricks", {"seed": "1", "boards": "9"})
+        with script(BROKEN_OFF % sign) as solver, serving.desk(tricks=solver) as desk:
+            answer = desk.post("/tonight/tricks", {"seed": "1", "boards": "9"})
         yield f"a solver that ends by {sign}", answer.status == status and said in answer.text
+
+
+# A program that has no memory for what is found.
+NO_MEMORY = f'#!/bin/sh\n[ "$1" != pick ] || {{ echo "out of memory" >&2; exit 5; }}\nexec "{harness.PROGRAM}" "$@"\n'
+
+
+def failed_pick():
+    """Boards of a search that fail are told as a fault, and aren't given as a file."""
+    with script(NO_MEMORY) as program, serving.desk(deals=program) as desk:
+        key = desk.post("/search", {"seed": "7", "where": "hcp(north)>=20", "boards": "2"}).headers["Location"]
+        yield "it ends", until(lambda: not json.loads(desk.get(f"{key}/state").text)["running"])
+        answer = desk.get(f"{key}/pbn")
+    yield "no file", answer.status == 422 and "out of memory" in answer.text and "[Deal" not in answer.text
 
 
 PARTS = (foreign, nasty_fields, too_many_boards, nasty_bodies, many, endless, idle, ended_searches)
@@ -229,5 +250,6 @@ def refused():
         yield "no file is left", f"{left}" if left else None
     yield from report.judged(first_pages())
     yield from report.judged(broken_off())
+    yield from report.judged(failed_pick())
     for number in (signal.SIGTERM, signal.SIGHUP, signal.SIGINT):
         yield from report.judged(ended(number))

@@ -77,10 +77,10 @@ class Desk:
 
 
 @contextlib.contextmanager
-def desk(*words, program=DESK, before=(), folder=None, tricks=TRICKS):
+def desk(*words, program=DESK, before=(), folder=None, deals=harness.PROGRAM, tricks=TRICKS):
     """A server, which ends at the end. `before` are words before its own, as of taskset; its files are in the folder, if
-    one is given; it runs `tricks` as its solver."""
-    settings = {**os.environ, "DEALS": str(harness.PROGRAM), "DEALS_TRICKS": str(tricks)}
+    one is given; it runs `deals`, and `tricks` as its solver."""
+    settings = {**os.environ, "DEALS": str(deals), "DEALS_TRICKS": str(tricks)}
     settings |= {"TMPDIR": folder} if folder else {}
     process = subprocess.Popen(
         [*before, PYTHON, program, "--port", "0", "--no-browser", *words], env=settings, stderr=subprocess.PIPE, text=True,

@@ -65,9 +65,9 @@ def bounded(form: words.Form, page: str) -> None:
             raise Refused(answers.Answer(name, needed.format(most=most)))
 
 
-def checked(command: words.Command, form: dict[str, str]) -> Ended:
+def checked(command: words.Command, form: dict[str, str], given: bytes = b"") -> Ended:
     """The run, unless it is refused."""
-    ended = run(command)
+    ended = run(command, given)
     if ended.status != 0:
         raise Refused(answers.read(ended.said, form))
     return ended

@@ -4,7 +4,7 @@ from flask import Blueprint, Response, abort, jsonify, redirect, request
 from werkzeug.wrappers import Response as AnyResponse
 
 from . import fields, files, words
-from .desk import Refused, bounded, checked, desk, page, run, written
+from .desk import Refused, bounded, checked, desk, page, written
 from .lesson import address
 from .searches import Search
 
@@ -92,5 +92,5 @@ def file(key: str, name: str) -> Response:
     if name not in files.SEARCH:
         abort(404)
     wanted = files.BY_NAME[name]
-    ended = run(words.found(found.form, wanted.look), found.given())
+    ended = checked(words.found(found.form, wanted.look), found.form, found.given())
     return written(ended.output, wanted, "search")
