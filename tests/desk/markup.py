@@ -48,12 +48,15 @@ def checked(desk):
 def empty(desk):
     """A field that may not be empty is told by the desk's own words, and by no option; pages say it at the field."""
     lesson, count, night = {"boards": "2", "seed": "7"}, {"candidates": "10", "seed": "7"}, {"boards": "2", "seed": "7", "first_board": "1"}
+    columns = {**count, "by": "hcp(south)"}
     for ask, path, form, name, said in [
         (desk.get, "/lesson", lesson, "seed", "write a number, 0 to 4294967295"),
         (desk.get, "/lesson/pbn", lesson, "seed", "write a number, 0 to 4294967295"),
         (desk.get, "/lesson/boards", lesson, "boards", "say how many boards, 1 to "),
         (desk.get, "/count", count, "seed", "write a number, 0 to 4294967295"),
         (desk.get, "/count/csv", count, "candidates", "say how many deals are tried"),
+        (desk.get, "/count", columns, "of", "columns come beside what is counted"),
+        (desk.get, "/count/csv", columns, "of", "columns come beside what is counted"),
         (desk.post, "/search", lesson, "seed", "write a number, 0 to 4294967295"),
         (desk.post, "/tonight", night, "seed", "draw another seed"),
         (desk.post, "/tonight/more", night, "seed", "draw another seed"),

@@ -63,6 +63,9 @@ def bounded(form: words.Form, page: str) -> None:
     for name, needed in fields.NEEDED[page].items():
         if not form[name]:
             raise Refused(answers.Answer(name, needed.format(most=most)))
+    for name, (beside, needed) in fields.BESIDE.items():
+        if form.get(name) and not form.get(beside):
+            raise Refused(answers.Answer(beside, needed))
 
 
 def checked(command: words.Command, form: dict[str, str], given: bytes = b"") -> Ended:

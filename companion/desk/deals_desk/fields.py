@@ -111,6 +111,8 @@ NEEDED = {
     "count": {"seed": SEED_NEEDED, "candidates": "say how many deals are tried, as 100000"},
     "search": {"seed": SEED_NEEDED, "boards": BOARDS_NEEDED},
 }
+# What is said at a field that is empty, where another one can't do without it.
+BESIDE = {"by": ("of", "columns come beside what is counted: write a value here, as hcp(north)")}
 
 
 def begins_with(page: str, name: str) -> str:
