@@ -18,6 +18,9 @@ RESTING = 0.1
 HERE = pathlib.Path(__file__).resolve().parent
 AUDIT = (HERE / "audit.js").read_text()
 FAILS_ONCE = "const asks = window.fetch; window.fetch = () => { window.fetch = asks; return Promise.reject(new TypeError()); }"
+PASTE = "arguments[0].value = arguments[1]; arguments[0].dispatchEvent(new Event('input', {bubbles: true}))"
+# A comment with a character that is two units of a browser's text.
+PLAYING_CARD = "# \U0001f0a1 is an ace\n"
 NOTRUMP = "balanced(north) and hcp(north) in 15-17 and every major (len(north,major)<5)"
 
 
@@ -75,6 +78,10 @@ class Window:
         field = self.find(f"[name={name}]")
         field.clear()
         field.send_keys(text)
+
+    def paste(self, name, text):
+        """Puts a text in at once, which may have characters that no key has."""
+        self.driver.execute_script(PASTE, self.find(f"[name={name}]"), text)
 
     def choose(self, name, text):
         self.find(f"[name={name}]").find_element("xpath", f"option[.=\"{text}\"]").click()
@@ -294,6 +301,19 @@ def mistake(window, desk):
     yield "a word is put in", window.find("[name=where]").get_attribute("value").startswith("len(north,")
 
 
+def playing_card(window, desk):
+    """A fault after a character of two units is marked at its place, and a word is put in there."""
+    window.go(f"{desk.address}/lesson")
+    window.paste("where", f"{PLAYING_CARD}hcp(nord)>=15")
+    window.until(lambda: window.find(".refusal .mend").is_displayed(), "the refusal")
+    yield "a fault after a playing card", window.find(".marks mark").get_attribute("textContent") == "nord"
+    window.paste("where", f"{PLAYING_CARD}len(north,")
+    window.until(lambda: window.button("spades").is_displayed(), "what could be there")
+    window.button("spades").click()
+    text = window.find("[name=where]").get_attribute("value")
+    yield "a word after a playing card", text == f"{PLAYING_CARD}len(north,spades"
+
+
 def back(window, desk):
     """A wrong text that Back brings again is marked again, and one that was mended is not."""
     window.go(f"{desk.address}/lesson")
@@ -400,7 +420,10 @@ def by_keyboard(window, desk):
     window.until(lambda: "Stopped" in window.find("[role=status]").text, "the end")
 
 
-WAYS = (tonight, sheet, lesson, handout, one_hand, two_tabs, linked, mistake, back, hands, counted, searched, contracts, by_keyboard)
+WAYS = (
+    tonight, sheet, lesson, handout, one_hand, two_tabs, linked, mistake, playing_card, back, hands, counted, searched,
+    contracts, by_keyboard,
+)
 
 
 # The ways that need no scripts; a mistake is told without them too, when the form is sent.

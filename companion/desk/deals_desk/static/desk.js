@@ -25,6 +25,17 @@ function mark(area, answer) {
   layer.scrollTop = area.scrollTop;
 }
 
+// A text's first characters as the browser counts them, which takes some of them for two.
+const units = (text, count) => [...text].slice(0, count).join("").length;
+
+// The answer with its places in a text. They were told in characters, without the blanks before it.
+function placed(answer, text) {
+  if (!answer || !Number.isInteger(answer.at)) return answer;
+  const told = text.trimStart(), blanks = text.length - told.length;
+  const at = units(told, answer.at), end = units(told, answer.at + answer.length);
+  return {...answer, at: blanks + at, length: end - at};
+}
+
 // The text with a word at the fault: in its place if it is an unknown word, else before it.
 function withWord(text, answer, word) {
   const isUnknown = answer.line.endsWith("unknown word");
@@ -123,9 +134,7 @@ function watchText(area) {
     const text = checked = area.value;
     const answer = await check(text).catch(() => undefined);
     if (answer === undefined || text !== area.value) return;
-    // Places are told in the text without the blanks before it.
-    if (answer && Number.isInteger(answer.at)) answer.at += text.length - text.trimStart().length;
-    show(area, answer);
+    show(area, placed(answer, text));
     clearTimeout(resting);
     if (!line) return;
     line.hidden = true;
