@@ -24,6 +24,7 @@ from .words import DEALS
 
 HERE, PORT = "127.0.0.1", 8270
 MOST_PORT = 65535
+LISTEN_HELP = f"the address to listen at [default: {HERE}, this machine alone]"
 NAME_HELP = "a name by which browsers may reach it, as deals.example.org; may be given several times"
 # Statuses, as `deals` has them.
 WORDS, UNABLE = 2, 6
@@ -36,6 +37,13 @@ def port(text: str) -> int:
     return int(text)
 
 
+def host(text: str) -> str:
+    """A host, which may not be empty: that would be every address of this machine."""
+    if not text:
+        raise argparse.ArgumentTypeError(f"nothing is given: write an address or a name, as {HERE}")
+    return text
+
+
 def parser() -> argparse.ArgumentParser:
     parse = argparse.ArgumentParser(
         prog="deals-desk",
@@ -44,8 +52,8 @@ def parser() -> argparse.ArgumentParser:
     )
     add = parse.add_argument
     add("--port", type=port, default=PORT, metavar="N", help=f"the port, 0 for any that is free [default: {PORT}]")
-    add("--listen", default=HERE, metavar="ADDRESS", help=f"the address to listen at [default: {HERE}, this machine alone]")
-    add("--name", action="append", default=[], metavar="HOST", help=NAME_HELP)
+    add("--listen", type=host, default=HERE, metavar="ADDRESS", help=LISTEN_HELP)
+    add("--name", type=host, action="append", default=[], metavar="HOST", help=NAME_HELP)
     add("--limits", action="store_true", help="bounds for a club's server: fewer boards, less time")
     add("--no-browser", action="store_true", help="don't open a browser")
     add("--version", action="store_true", help="print the version of deals that it runs")
