@@ -43,6 +43,12 @@ def buttons(page):
     return re.findall(r'formaction="/lesson/(\w+)"', page.text)
 
 
+def framed(desk, page):
+    """What the frame of a page shows."""
+    (address,) = re.findall(r'<iframe title="[\w ]+" src="([^"]+)"', page.text)
+    return desk.get(html.unescape(address)).body
+
+
 def options(form, table):
     """The options of the fields that a table names."""
     return [option + form[field] for field, option in table.items() if form.get(field)]
@@ -65,7 +71,10 @@ def lessons(desk):
     first = buttons(desk.get("/lesson"))
     yield "a button for each file", {*first, "boards"} == set(files.LESSON)
     for form in LESSONS:
-        yield f"the same buttons after Deal, {form}", buttons(desk.get("/lesson", form)) == first
+        page = desk.get("/lesson", form)
+        yield f"the same buttons after Deal, {form}", buttons(page) == first
+        (line,) = shown_lines(page.text)
+        yield f"the frame after Deal, {form}", framed(desk, page) == serving.typed(line) != b""
         given = {name: desk.get(f"/lesson/{name}", form) for name in ("boards", *first)}
         for name, answer in given.items():
             is_same = answer.body == serving.typed(line_of(desk, form, files.BY_NAME[name])) != b""
@@ -88,7 +97,9 @@ def contracts(desk):
 
 def counts(desk):
     for form in COUNTS:
-        (line,) = shown_lines(desk.get("/count", form).text)
+        page = desk.get("/count", form)
+        (line,) = shown_lines(page.text)
+        yield f"the frame of a count, {form}", framed(desk, page) == serving.typed(line) != b""
         given = desk.get("/count/html", form)
         yield f"count, {form}", given.body == serving.typed(line) != b""
         given = desk.get("/count/csv", form)
@@ -116,6 +127,10 @@ def searches(desk):
     yield "no deal meets it", serving.until(lambda: not json.loads(desk.get(f"{key}/state").text)["running"], serving.SECONDS)
     page = desk.get(key).text
     yield "nothing to go on with", "all is searched" in page and "Go on from here" not in page
+    key = desk.post("/search", {"seed": "7", "where": "hcp(north)>=20", "boards": "1", "candidates": ""}).headers["Location"]
+    yield "a board", serving.until(lambda: not json.loads(desk.get(f"{key}/state").text)["running"], serving.SECONDS)
+    (on,) = re.findall(r'<a href="(/search\?[^"]+)">Go on', desk.get(key).text)
+    yield "all deals are gone on with", 'name="candidates" value=""' in desk.get(html.unescape(on)).text
 
 
 def letters(desk):
