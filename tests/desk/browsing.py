@@ -18,6 +18,17 @@ RESTING = 0.1
 HERE = pathlib.Path(__file__).resolve().parent
 AUDIT = (HERE / "audit.js").read_text()
 FAILS_ONCE = "const asks = window.fetch; window.fetch = () => { window.fetch = asks; return Promise.reject(new TypeError()); }"
+# The next answer of an address comes a second late.
+LATE_ONCE = """const asks = window.fetch, [late] = arguments;
+window.fetch = async (path, ...more) => {
+  if (path !== late) return asks(path, ...more);
+  window.fetch = asks;
+  window.isAsked = true;
+  const answer = await asks(path, ...more);
+  await new Promise((done) => setTimeout(done, 1000));
+  window.isLate = true;
+  return answer;
+}"""
 PASTE = "arguments[0].value = arguments[1]; arguments[0].dispatchEvent(new Event('input', {bubbles: true}))"
 # A comment with a character that is two units of a browser's text.
 PLAYING_CARD = "# \U0001f0a1 is an ace\n"
@@ -314,6 +325,31 @@ def playing_card(window, desk):
     yield "a word after a playing card", text == f"{PLAYING_CARD}len(north,spades"
 
 
+def late(window, desk):
+    """An answer that comes late changes nothing of what a later text has brought."""
+    def has(name):
+        return window.driver.execute_script("return window[arguments[0]] === true", name)
+
+    window.go(f"{desk.address}/lesson")
+    window.driver.execute_script(LATE_ONCE, "/rarity")
+    window.paste("where", "hcp(north)>=20")
+    window.until(lambda: has("isAsked"), "how rare they are is asked")
+    window.paste("where", "hcp(nord)>=20")
+    window.until(lambda: has("isLate"), "how rare the hands were")
+    time.sleep(RESTING)
+    yield "late: nothing is told of a faulty text", not window.find("[data-rarity]").is_displayed()
+    window.go(desk.address)
+    window.driver.execute_script(LATE_ONCE, "/tonight/lines")
+    for event in ("First", "Second"):
+        window.driver.execute_script(
+            "const field = document.querySelector('[name=event]'); field.value = arguments[0];"
+            "field.dispatchEvent(new Event('change', {bubbles: true}))", event
+        )
+    window.until(lambda: has("isLate"), "the lines")
+    time.sleep(RESTING)
+    yield "late: the lines are the last ones", "--event=Second" in window.shown_lines()[0]
+
+
 def back(window, desk):
     """A wrong text that Back brings again is marked again, and one that was mended is not."""
     window.go(f"{desk.address}/lesson")
@@ -421,8 +457,8 @@ def by_keyboard(window, desk):
 
 
 WAYS = (
-    tonight, sheet, lesson, handout, one_hand, two_tabs, linked, mistake, playing_card, back, hands, counted, searched,
-    contracts, by_keyboard,
+    tonight, sheet, lesson, handout, one_hand, two_tabs, linked, mistake, playing_card, late, back, hands, counted,
+    searched, contracts, by_keyboard,
 )
 
 

@@ -125,8 +125,9 @@ function watchText(area) {
   const count = latest((text) => ask("/rarity", {text}));
   let typing = 0, resting = 0, checked = "";
   const rest = async () => {
-    const rare = area.value.trim() ? await count(area.value).catch(() => null) : null;
-    if (rare === undefined) return;
+    const text = area.value;
+    const rare = text.trim() ? await count(text).catch(() => null) : null;
+    if (rare === undefined || text !== area.value) return;
     line.hidden = !rare;
     if (rare) line.textContent = told(rare, Number(area.form.elements.boards?.value));
   };
@@ -168,9 +169,10 @@ function watchPrint(print) {
 
 // The lines to be typed follow the form.
 function watchLines(form) {
+  const told = latest((given) => ask(form.dataset.lines, given));
   form.addEventListener("change", async () => {
-    const lines = await ask(form.dataset.lines, new FormData(form)).catch(() => ({}));
-    for (const [name, line] of Object.entries(lines)) {
+    const lines = await told(new FormData(form)).catch(() => null);
+    for (const [name, line] of Object.entries(lines || {})) {
       const place = document.querySelector(`[data-line="${name}"] code`);
       if (place) place.textContent = line;
     }
