@@ -2,6 +2,7 @@
 
 import subprocess
 import tempfile
+import time
 
 import board_formats
 import harness
@@ -9,7 +10,7 @@ import packages
 import report
 import serving
 import tables
-from deals_desk import answers, fields, files, searches, words
+from deals_desk import answers, fields, files, limits, runs, searches, words
 
 WHERE = "hcp(north) in 15-17 and balanced(north)"
 
@@ -106,6 +107,26 @@ ENDS = [
 ]
 
 
+def unseen():
+    """A search goes on while the page of a tab behind others asks for it, which Chromium lets it once a minute
+    (developer.chrome.com/blog/timer-throttling-in-chrome-88), and ends where no page asks."""
+    class Process:
+        def poll(self):
+            return None
+
+    form = {"boards": "4", "first": "0", "candidates": ""}
+    for bounds in (limits.HOME, limits.CLUB):
+        for asked, is_stopped in ((70, False), (200, True)):
+            now = time.monotonic()
+            with tempfile.TemporaryFile() as said:
+                search = searches.Search(form, words.search(form), Process(), said, now - asked, now - asked)
+                search.stop = lambda search=search: setattr(search, "stopped", True)
+                known = searches.Searches(runs.Runner(bounds))
+                known.all["key"] = search
+                known.look()
+            yield f"asked for {asked} seconds ago", search.stopped == is_stopped
+
+
 def searched():
     """What is told of a search that ended: that all is searched only if it ended well."""
     form = {"boards": "4", "first": "0", "candidates": "1000"}
@@ -139,5 +160,5 @@ def typed():
 
 def words_of_forms():
     yield "types", typed()
-    for part in (told, marked, named, hinted, possible, searched, listed):
+    for part in (told, marked, named, hinted, possible, unseen, searched, listed):
         yield from report.judged(part())
