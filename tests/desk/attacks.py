@@ -203,7 +203,11 @@ def ended(number):
 # A solver that writes two boards, and is ended by a signal.
 BROKEN_OFF = f'#!/bin/sh\n"{serving.TRICKS}" "$@" --boards=2\nkill -s %s $$\n'
 # The signals, with the status of the page and what it has.
-SIGNALS = [("KILL", 500, "<code>deals-tricks</code>"), ("SEGV", 500, "broke off"), ("PIPE", 200, "<h2>2</h2>")]
+SIGNALS = [
+    ("KILL", 500, "<code>deals-tricks</code>"),
+    ("SEGV", 500, "broke off"),
+    ("PIPE", 200, "<h2>2</h2>"),
+]
 
 
 @contextlib.contextmanager
@@ -217,7 +221,7 @@ def script(text):
 
 
 def broken_off():
-    """A solver that a signal ends gives no page with some of the boards, unless the page needs no more."""
+    """A solver that a signal ends gives no page with some of the boards, but by that of a pipe."""
     for sign, status, said in SIGNALS:
         with script(BROKEN_OFF % sign) as solver, serving.desk(tricks=solver) as desk:
             answer = desk.post("/tonight/tricks", {"seed": "1", "boards": "9"})
@@ -225,16 +229,21 @@ def broken_off():
 
 
 # A program that has no memory for what is found.
-NO_MEMORY = f'#!/bin/sh\n[ "$1" != pick ] || {{ echo "out of memory" >&2; exit 5; }}\nexec "{harness.PROGRAM}" "$@"\n'
+NO_MEMORY = f"""#!/bin/sh
+[ "$1" != pick ] || {{ echo "out of memory" >&2; exit 5; }}
+exec "{harness.PROGRAM}" "$@"
+"""
 
 
 def failed_pick():
     """Boards of a search that fail are told as a fault, and aren't given as a file."""
     with script(NO_MEMORY) as program, serving.desk(deals=program) as desk:
-        key = desk.post("/search", {"seed": "7", "where": "hcp(north)>=20", "boards": "2"}).headers["Location"]
+        form = {"seed": "7", "where": "hcp(north)>=20", "boards": "2"}
+        key = desk.post("/search", form).headers["Location"]
         yield "it ends", until(lambda: not json.loads(desk.get(f"{key}/state").text)["running"])
         answer = desk.get(f"{key}/pbn")
-    yield "no file", answer.status == 422 and "out of memory" in answer.text and "[Deal" not in answer.text
+    is_told = "out of memory" in answer.text and "[Deal" not in answer.text
+    yield "no file", answer.status == 422 and is_told
 
 
 PARTS = (foreign, nasty_fields, too_many_boards, nasty_bodies, many, endless, idle, ended_searches)

@@ -29,7 +29,9 @@ window.fetch = async (path, ...more) => {
   window.isLate = true;
   return answer;
 }"""
-PASTE = "arguments[0].value = arguments[1]; arguments[0].dispatchEvent(new Event('input', {bubbles: true}))"
+PASTE = """const [field, text, event] = arguments;
+field.value = text;
+field.dispatchEvent(new Event(event, {bubbles: true}))"""
 # A comment with a character that is two units of a browser's text.
 PLAYING_CARD = "# \U0001f0a1 is an ace\n"
 NOTRUMP = "balanced(north) and hcp(north) in 15-17 and every major (len(north,major)<5)"
@@ -90,9 +92,9 @@ class Window:
         field.clear()
         field.send_keys(text)
 
-    def paste(self, name, text):
+    def paste(self, name, text, event="input"):
         """Puts a text in at once, which may have characters that no key has."""
-        self.driver.execute_script(PASTE, self.find(f"[name={name}]"), text)
+        self.driver.execute_script(PASTE, self.find(f"[name={name}]"), text, event)
 
     def choose(self, name, text):
         self.find(f"[name={name}]").find_element("xpath", f"option[.=\"{text}\"]").click()
@@ -317,7 +319,8 @@ def playing_card(window, desk):
     window.go(f"{desk.address}/lesson")
     window.paste("where", f"{PLAYING_CARD}hcp(nord)>=15")
     window.until(lambda: window.find(".refusal .mend").is_displayed(), "the refusal")
-    yield "a fault after a playing card", window.find(".marks mark").get_attribute("textContent") == "nord"
+    marked = window.find(".marks mark").get_attribute("textContent")
+    yield "a fault after a playing card", marked == "nord"
     window.paste("where", f"{PLAYING_CARD}len(north,")
     window.until(lambda: window.button("spades").is_displayed(), "what could be there")
     window.button("spades").click()
@@ -341,10 +344,7 @@ def late(window, desk):
     window.go(desk.address)
     window.driver.execute_script(LATE_ONCE, "/tonight/lines")
     for event in ("First", "Second"):
-        window.driver.execute_script(
-            "const field = document.querySelector('[name=event]'); field.value = arguments[0];"
-            "field.dispatchEvent(new Event('change', {bubbles: true}))", event
-        )
+        window.paste("event", event, "change")
     window.until(lambda: has("isLate"), "the lines")
     time.sleep(RESTING)
     yield "late: the lines are the last ones", "--event=Second" in window.shown_lines()[0]
@@ -457,8 +457,8 @@ def by_keyboard(window, desk):
 
 
 WAYS = (
-    tonight, sheet, lesson, handout, one_hand, two_tabs, linked, mistake, playing_card, late, back, hands, counted,
-    searched, contracts, by_keyboard,
+    tonight, sheet, lesson, handout, one_hand, two_tabs, linked, mistake, playing_card, late, back,
+    hands, counted, searched, contracts, by_keyboard,
 )
 
 

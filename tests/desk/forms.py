@@ -60,9 +60,10 @@ def marked():
 
 # A field, and a value of it that is refused.
 REFUSED = [
-    ("seed", "x"), ("boards", "0"), ("first_board", "-1"), ("north", "AKQ"), ("event", '"'), ("date", "today"),
-    ("vulnerable", "Nobody"), ("candidates", "9999999999999"), ("candidates", "1e6"), ("first", "9999999999999"),
-    ("first", "x"), ("show", "all four"), ("points", "no"),
+    ("seed", "x"), ("boards", "0"), ("first_board", "-1"), ("north", "AKQ"), ("event", '"'),
+    ("date", "today"), ("vulnerable", "Nobody"), ("candidates", "9999999999999"),
+    ("candidates", "1e6"), ("first", "9999999999999"), ("first", "x"), ("show", "all four"),
+    ("points", "no"),
 ]
 
 
@@ -70,10 +71,11 @@ def named():
     """The field that each refusal of an option belongs to, which is told by its label."""
     for name, value in REFUSED:
         field = fields.BY_NAME[name]
-        ended = harness.deals("make", "--seed=1", "--candidates=1", "--hints=always", f"{field.option}={value}")
+        given = f"{field.option}={value}"
+        ended = harness.deals("make", "--seed=1", "--candidates=1", "--hints=always", given)
         answer = answers.read(ended.stderr.decode(), {})
         said = f"{answer.line}\n{answer.text}"
-        yield f"{field.option}={value}", answer.field == name and f"«{field.label}»" in said and "--" not in said
+        yield given, answer.field == name and f"«{field.label}»" in said and "--" not in said
     for name in ("of", "by"):
         ended = harness.deals("count", "--seed=1", "--candidates=1", "--of=1", f"--{name}=nord")
         yield name, answers.read(ended.stderr.decode(), {name: "nord"}).field == name
@@ -108,8 +110,8 @@ ENDS = [
 
 
 def unseen():
-    """A search goes on while the page of a tab behind others asks for it, which Chromium lets it once a minute
-    (developer.chrome.com/blog/timer-throttling-in-chrome-88), and ends where no page asks."""
+    """A search goes on while the page of a tab behind others asks for it, which Chromium lets it
+    once a minute (developer.chrome.com/blog/timer-throttling-in-chrome-88), and ends where none asks."""
     class Process:
         def poll(self):
             return None
@@ -117,9 +119,9 @@ def unseen():
     form = {"boards": "4", "first": "0", "candidates": ""}
     for bounds in (limits.HOME, limits.CLUB):
         for asked, is_stopped in ((70, False), (200, True)):
-            now = time.monotonic()
+            then = time.monotonic() - asked
             with tempfile.TemporaryFile() as said:
-                search = searches.Search(form, words.search(form), Process(), said, now - asked, now - asked)
+                search = searches.Search(form, words.search(form), Process(), said, then, then)
                 search.stop = lambda search=search: setattr(search, "stopped", True)
                 known = searches.Searches(runs.Runner(bounds))
                 known.all["key"] = search

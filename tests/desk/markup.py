@@ -81,8 +81,8 @@ def boards(desk):
 
 # Numbers of deals that are refused, with what is said of them.
 DEALS_TO_TRY = [
-    ("1e6", "for «Deals to try»"), ("1,000", "write digits alone: «Deals to try» 1000"), ("-3", "a whole number"),
-    ("10000000000000", "«Deals to try» 10000000000000: 0 to 1099511627776"),
+    ("1e6", "for «Deals to try»"), ("1,000", "write digits alone: «Deals to try» 1000"),
+    ("-3", "a whole number"), ("10000000000000", "«Deals to try» 10000000000000: 0 to 1099511627776"),
 ]
 
 
@@ -93,8 +93,8 @@ def deals_to_try(desk):
         for ask, path in ((desk.get, "/count"), (desk.post, "/search")):
             answer = ask(path, form)
             told = answer.text.partition('id="candidates-refusal"')[2].partition("</div>")[0]
-            is_told = said in told and "--" not in told
-            yield f"{path}, {number}", answer.status == 422 and is_told and "<iframe" not in answer.text
+            is_told = said in told and "--" not in told and "<iframe" not in answer.text
+            yield f"{path}, {number}", answer.status == 422 and is_told
     answer = desk.post("/search", {"seed": "7", "candidates": "", "boards": "1", "where": "hcp(north)>=20"})
     yield "all deals", answer.status == 303
     answer = desk.get("/count", {"seed": "7", "candidates": "10", "of": "nord"})
@@ -103,7 +103,8 @@ def deals_to_try(desk):
         ("1099511627776", "candidates", "«Deals to try» 4: 0 to 0 from where it begins"),
         ("1099511627777", "first", "«Begin at deal» 1099511627777: 0 to 1099511627776"),
     ]:
-        answer = desk.post("/search", {"seed": "7", "first": first, "candidates": "4", "boards": "1"})
+        form = {"seed": "7", "first": first, "candidates": "4", "boards": "1"}
+        answer = desk.post("/search", form)
         told = answer.text.partition(f'id="{name}-refusal"')[2].partition("</div>")[0]
         yield f"a place to begin that is too far, {first}", answer.status == 422 and said in told
 

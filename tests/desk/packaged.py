@@ -61,7 +61,8 @@ def refused_words():
     rows = [
         (["--port", "x"], {}, 2, port), (["--port", "70000"], {}, 2, port), (["--port=-1"], {}, 2, port),
         (["--boards", "3"], {}, 2, "--boards"), ([], {"DEALS": "/nowhere"}, 6, "its package has to be there"),
-        (["--listen="], listen, 2, "write an address or a name"), (["--name="], listen, 2, "write an address or a name"),
+        (["--listen="], listen, 2, "write an address or a name"),
+        (["--name="], listen, 2, "write an address or a name"),
         (["--listen", "192.0.2.1"], listen, 6, "an address of this machine by --listen"),
     ]
     for words, settings, status, said in rows:

@@ -127,10 +127,12 @@ def searches(desk):
     yield "no deal meets it", serving.until(lambda: not json.loads(desk.get(f"{key}/state").text)["running"], serving.SECONDS)
     page = desk.get(key).text
     yield "nothing to go on with", "all is searched" in page and "Go on from here" not in page
-    key = desk.post("/search", {"seed": "7", "where": "hcp(north)>=20", "boards": "1", "candidates": ""}).headers["Location"]
-    yield "a board", serving.until(lambda: not json.loads(desk.get(f"{key}/state").text)["running"], serving.SECONDS)
+    form = {"seed": "7", "where": "hcp(north)>=20", "boards": "1", "candidates": ""}
+    key = desk.post("/search", form).headers["Location"]
+    yield "a board", serving.until(lambda: not json.loads(desk.get(f"{key}/state").text)["running"])
     (on,) = re.findall(r'<a href="(/search\?[^"]+)">Go on', desk.get(key).text)
-    yield "all deals are gone on with", 'name="candidates" value=""' in desk.get(html.unescape(on)).text
+    page = desk.get(html.unescape(on)).text
+    yield "all deals are gone on with", 'name="candidates" value=""' in page
 
 
 def letters(desk):

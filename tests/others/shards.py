@@ -200,9 +200,9 @@ REFUSED = [
 
 
 def refused(_):
-    """What is refused, also for want of deals, leaves no file and no folder; what is there stays."""
+    """What is refused, or lacks deals, leaves no file and no folder; what is there stays."""
     for options, count, program, status, said in REFUSED:
-        settings = {"env": {**os.environ, "DEALS": str(program)}, "capture_output": True, "check": False}
+        settings = {"env": {**os.environ, "DEALS": str(program)}, "capture_output": True}
         for script, numbers in ((RESUME, [count]), (SHARD, ["0", count])):
             for is_there in (False, True):
                 with tempfile.TemporaryDirectory(prefix="refused-") as folder:
@@ -214,7 +214,8 @@ def refused(_):
                     run = subprocess.run(words, **settings)
                     left = sorted(pathlib.Path(folder).rglob("*"))
                 right = (run.returncode, left) == (status, before) and said in run.stderr
-                yield f"{script.name}, refused {options} {count}, {is_there}", None if right else f"{run}, {left}"
+                name = f"{script.name}, refused {options} {count}, {is_there}"
+                yield name, None if right else f"{run}, {left}"
 
 
 def stopped(deals):

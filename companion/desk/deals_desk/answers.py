@@ -27,20 +27,21 @@ BY_PBN = 'PBN has ASCII letters alone there, without " and \\. Sheets, slips and
 # Lines that help only who types commands.
 OF_A_SHELL = ("Usage: ", "For more information, try ")
 # What only a command line has, and what is said of it on a page.
+IN_TURN = dict(fields.TURNS)[fields.TURNING]
 ON_A_PAGE = (
     (re.compile(r"say whose, in quotes, as in '(.*)': the shell takes \( and > for itself"), r"say whose, as in \1"),
     (re.compile(r"in the shell write plain quotes, .* around the whole condition"), "leave the quotes out"),
     (re.compile(r'the text itself goes here; from a file: "\$\(cat FILE\)"'), "the text itself goes here"),
     (re.compile(r'the shell reads a file in double quotes alone: "\$\(cat FILE\)"'), "the text itself goes here"),
-    (re.compile(r"gives such names: --let .*"), "has such names: copy them, and put them first here"),
+    (re.compile(r"gives such names: --let .*"), "has such names: copy them to the beginning"),
     (re.compile(r"of that: --lesson .*"), "of that, to start from on the page Lesson"),
-    (re.compile(r"deals lessons has (.*), as --lesson .*"), r"the page Lesson has \1 to start from"),
+    (re.compile(r"deals lessons has (.*), as .*"), r"the page Lesson has \1 to start from"),
     (re.compile(r"deals count --of"), "the page How often?"),
     (re.compile(r"deals make \.\. \| deals-tricks (?=--makes)"), ""),
     (re.compile(r"; to draw one: deals seed"), ""),
     (re.compile(r"from this --first on"), "from where it begins"),
     (re.compile(r"--format says"), "a button says"),
-    (re.compile(r"--rotate"), f"«{fields.BY_NAME['turn'].label}: {dict(fields.TURNS)[fields.TURNING]}»"),
+    (re.compile(r"--rotate"), f"«{fields.BY_NAME['turn'].label}: {IN_TURN}»"),
 )
 # The option of a field, by itself or with what it takes.
 OPTIONS = "|".join(fields.BY_OPTION)

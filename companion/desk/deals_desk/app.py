@@ -20,7 +20,7 @@ FAULTS: dict[type[Exception], tuple[int, str, str]] = {
     Missing: (503, "A program is missing", "Install the package of this name, and start deals-desk anew."),
     TooLong: (504, "This takes longer than a page can wait", "Ask for less. Rare hands are for the page Long search."),
     TooLarge: (413, "This is more than a page can hold", "Ask for fewer boards, or run the command yourself."),
-    Broken: (500, "A program broke off", "It may not have written all. Try it again, or run the command yourself."),
+    Broken: (500, "A program broke off", "It may not have written all. Try it again."),
     Left: (503, "Nobody waited", "The browser left before the boards were there."),
 }
 

@@ -37,8 +37,9 @@ def count() -> Response:
         except Refused as refused:
             answer = refused.answer
     return page(
-        "count.html", 422 if answer else 200, form=form, answer=answer, address=address(form, "count"),
-        is_counted=is_asked and not answer, line=words.count(form, "html").line(),
+        "count.html", 422 if answer else 200, form=form, answer=answer,
+        address=address(form, "count"), is_counted=is_asked and not answer,
+        line=words.count(form, "html").line(),
     )
 
 

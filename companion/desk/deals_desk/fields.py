@@ -18,8 +18,8 @@ class Kind(enum.Enum):
 
 @dataclasses.dataclass(frozen=True)
 class Field:
-    """A field of a form. `option` is the option that its value goes to, of `deals` or `deals-tricks`; for some of them
-    `words` has more to say."""
+    """A field of a form. `option` is that of `deals` or `deals-tricks` to which its value goes; of
+    some of them `words` knows more."""
 
     name: str
     label: str

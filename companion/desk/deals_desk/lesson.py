@@ -19,7 +19,8 @@ def asked() -> dict[str, str]:
 
 def address(form: Form, page: str) -> str:
     """The words of an address, without what is empty as the page begins."""
-    return urlencode({name: value for name, value in form.items() if value or fields.begins_with(page, name)})
+    given = {name: value for name, value in form.items() if value or fields.begins_with(page, name)}
+    return urlencode(given)
 
 
 def accepted(form: dict[str, str]) -> Ended:
@@ -42,9 +43,10 @@ def lesson() -> Response:
             answer = refused.answer
     line = command_of(files.BY_NAME["boards"], form).line()
     return page(
-        "lesson.html", 422 if answer else 200, form=form, answer=answer, noted=noted, files=offered(files.LESSON),
-        address=address(form, "lesson"), is_dealt=is_asked and not answer, line=line,
-        groups=starts.groups(desk().runner.programs.get(DEALS, "")), has_solver=desk().runner.has(TRICKS),
+        "lesson.html", 422 if answer else 200, form=form, answer=answer, noted=noted,
+        files=offered(files.LESSON), address=address(form, "lesson"), line=line,
+        is_dealt=is_asked and not answer, has_solver=desk().runner.has(TRICKS),
+        groups=starts.groups(desk().runner.programs.get(DEALS, "")),
     )
 
 

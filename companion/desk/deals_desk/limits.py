@@ -23,17 +23,18 @@ class Limits:
     unasked: float
 
 
-# So seldom, in seconds, browsers let a page ask that nobody looks at, as in a tab behind others: Chrome from 88 on.
+# So seldom, in seconds, browsers let a page ask that nobody looks at, as in a tab behind others:
+# Chrome from 88 on.
 UNSEEN = 60
 
 HOME = Limits(
-    runs=4, wait=5, seconds=20, solving=240, output=16 << 20, boards=1000, searches=2, searching=24 * 3600,
-    unasked=2.5 * UNSEEN,
+    runs=4, wait=5, seconds=20, solving=240, output=16 << 20, boards=1000, searches=2,
+    searching=24 * 3600, unasked=2.5 * UNSEEN,
 )
 # For strangers: less of everything, but for a page that isn't seen.
 CLUB = Limits(
-    runs=4, wait=2, seconds=5, solving=60, output=4 << 20, boards=128, searches=2, searching=600,
-    unasked=2.5 * UNSEEN,
+    runs=4, wait=2, seconds=5, solving=60, output=4 << 20, boards=128, searches=2,
+    searching=600, unasked=2.5 * UNSEEN,
 )
 
 # A form's bytes.

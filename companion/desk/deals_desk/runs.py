@@ -105,8 +105,8 @@ class Pipeline:
             process.wait()
 
     def ended(self, output: bytes) -> Ended:
-        """How it ended, after the last one wrote all: by the first program that refused something or broke off. What
-        still runs then has lost its reader, and is ended."""
+        """How it ended, after the last one wrote all: by the first program that refused something
+        or broke off. What still runs then has lost its reader, and is ended."""
         last = self.processes[-1].wait()
         statuses = [*map(end_soon, self.processes[:-1]), last]
         failed = [place for place, status in enumerate(statuses) if has_failed(status)]
@@ -133,8 +133,8 @@ OUTPUT_FAILED = 4
 
 
 def end_soon(process: subprocess.Popen[bytes]) -> int:
-    """The status of a program whose reader has ended. One that goes on for more than a little is ended: it would have
-    found that its output fails."""
+    """The status of a program whose reader has ended. One that goes on for more than a little is
+    ended: it would have found that its output fails."""
     try:
         status = process.wait(GRACE)
     except subprocess.TimeoutExpired:

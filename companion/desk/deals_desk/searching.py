@@ -63,7 +63,8 @@ def progress(key: str) -> Response:
     form = found.form
     on = {**form, "first": str(found.goes_on_at())}
     return page(
-        "search.html", form=form, answer=None, key=key, search=found, state=state(found), goes_on=address(on, "search"),
+        "search.html", form=form, answer=None, key=key, search=found, state=state(found),
+        goes_on=address(on, "search"),
         files=[files.BY_NAME[name] for name in files.SEARCH], find=words.search(form).line(),
         pick=words.found(form, files.BY_NAME["pbn"].look).line(),
     )

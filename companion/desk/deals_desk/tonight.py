@@ -31,8 +31,9 @@ def shown(night: Night, refused: Refused | None = None) -> Response:
 
 
 def kept(response: AnyResponse, night: Night, left: Night | None = None) -> AnyResponse:
-    """The response, once the night is kept for this browser, and the part that is left. Its name is sent after a link
-    of another site too, where the page would begin another night without it; others' forms are refused."""
+    """The response, once the night is kept for this browser, and the part that is left. Its name is
+    sent after a link of another site too, where the page would begin another night without it;
+    others' forms are refused."""
     name = desk().nights.put(request.cookies.get(COOKIE), night, left)
     response.set_cookie(COOKIE, name, httponly=True, samesite="Lax", max_age=int(nights.LASTS))
     return response
