@@ -1,11 +1,12 @@
 //! What helps a person with a failure, below the line that names it.
 
 use cond_lang::{
-    CondError, Question, check_definitions, parse_question, parse_question_after, text_after,
+    CondError, Question, check_definitions, letter_run_len, names_of, parse_question,
+    parse_question_after, text_after,
 };
 use deals_cli::{Failure, MAX_QUESTIONS, QuestionName, Request};
 use explain::Reasons;
-use explain_conditions::{explain, explain_definitions, explain_question};
+use explain_conditions::{explain, explain_definitions, explain_name, explain_question};
 use std::alloc::Global;
 
 /// What helps with a condition that has too many parts.
@@ -34,16 +35,49 @@ pub fn help(
         Failure::Condition(error) => {
             let (search, _) = request?.searched()?;
             let read = Read::of(alloc, search.let_text, search.where_text?, *error)?;
-            explain(alloc, read.text.as_slice(), read.error).ok()
+            match defined_elsewhere(request?, &read) {
+                Some(at) => explain_name(alloc, read.text.as_slice(), at).ok(),
+                None => explain(alloc, read.text.as_slice(), read.error).ok(),
+            }
         }
         Failure::Question(name, error) => {
             let (search, _) = request?.searched()?;
             let text = refused_question(alloc, request?, search.let_text, *name, *error)?;
             let read = Read::of(alloc, search.let_text, text, *error)?;
-            explain_question(alloc, read.text.as_slice(), read.error).ok()
+            match defined_elsewhere(request?, &read) {
+                Some(at) => explain_name(alloc, read.text.as_slice(), at).ok(),
+                None => explain_question(alloc, read.text.as_slice(), read.error).ok(),
+            }
         }
         _ => explain::help(alloc, words, request, failure, reasons),
     }
+}
+
+/// Where the text has an unknown word that another text of the request defines as a name, and it
+/// doesn't itself.
+fn defined_elsewhere(request: &Request<'_>, read: &Read) -> Option<usize> {
+    let CondError::Word { at } = read.error else {
+        return None;
+    };
+    let rest = read.text.get(at..)?;
+    let word = rest.get(..letter_run_len(rest))?;
+    if defines(read.text.as_slice(), word) {
+        return None;
+    }
+    let (search, _) = request.searched()?;
+    let of = request.question(QuestionName::Of);
+    let by = request.question(QuestionName::By);
+    [search.where_text, of, by]
+        .into_iter()
+        .chain((0..MAX_QUESTIONS).map(|place| request.question_at(place)))
+        .flatten()
+        .any(|text| defines(text.as_bytes(), word))
+        .then_some(at)
+}
+
+/// Whether the text defines the name.
+fn defines(text: &[u8], name: &[u8]) -> bool {
+    names_of(text).iter().any(|found| *found == name)
 }
 
 /// The text of the question that is refused so: of several questions the first that is. None if

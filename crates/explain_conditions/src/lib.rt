@@ -15,5 +15,5 @@ mod rules;
 
 pub use noted::note;
 pub use rare::rare_tests;
-pub use refusal::{explain, explain_definitions, explain_question};
+pub use refusal::{explain, explain_definitions, explain_name, explain_question};
 pub use rules::slip;

@@ -23,6 +23,10 @@ use std::alloc::{AllocError, Global};
 const ONLY_DEFINITIONS: &[u8] =
     b"--let has definitions alone, as let fit is (..); a condition comes after --where";
 
+/// What is said of a name that another text has.
+const DEFINED_ELSEWHERE: &[u8] =
+    b"that name is defined in another text alone; names for all texts go in --let";
+
 /// Returns what helps a person with a text that is refused as `error`: the lines that are below
 /// the one that names the refusal, each ended by a line feed.
 ///
@@ -75,13 +79,28 @@ pub fn explain_definitions(
         }
         CondError::Syntax { at } => {
             if may_define(alloc, text, at)? {
-                put_no_definition(alloc, &mut out, text, at)?
+                put_told(alloc, &mut out, text, at, ONLY_DEFINITIONS)?
             } else {
                 put_syntax(alloc, &mut out, TextKind::Condition, text, at)?
             }
         }
         CondError::TooManyParts | CondError::Memory => {}
     }
+    Ok(out)
+}
+
+/// Returns what helps a person with a word that isn't in the language, and that another of the
+/// texts defines: the line of the text that has it, with carets below, and a hint that names for
+/// all texts go in `--let`.
+///
+/// # Errors
+/// `AllocError` if an allocation failed.
+#[inline(never)]
+pub fn explain_name(alloc: Global, text: &[u8], at: usize) -> Result<String, AllocError>
+    ensures { IfOk result (λ written. Shows Nothing text.now at (string_bytes written)) }
+{
+    let mut out = String::new(alloc);
+    put_told(alloc, &mut out, text, at, DEFINED_ELSEWHERE)?;
     Ok(out)
 }
 
@@ -152,20 +171,21 @@ fn may_define(alloc: Global, text: &[u8], at: usize) -> Result<bool, AllocError>
     }
 }
 
-/// Appends what is said of a token where a definition could begin, and is none.
-fn put_no_definition(
+/// Appends the line of the text that has the place, and this hint.
+fn put_told(
     alloc: Global,
     out: &mut String,
     text: &[u8],
     at: usize,
+    hint: &[u8],
 ) -> Result<(), AllocError>
     ensures { OnOk result (Appends (Shows Nothing text.now at)
         (string_bytes out.old) (string_bytes out.new)) }
 {
     put_excerpt(out, text, at)?;
-    let mut hint = Vec::new(alloc);
-    hint.extend_from_slice(ONLY_DEFINITIONS)?;
-    put_hint(alloc, out, Ok(Some(hint)))
+    let mut told = Vec::new(alloc);
+    told.extend_from_slice(hint)?;
+    put_hint(alloc, out, Ok(Some(told)))
 }
 
 /// The beginning of the text, if it has tokens.

@@ -5,7 +5,7 @@ use Rattle.notations.specs.Style.{number_style, page_style, sign_style, title_st
 -- slips are side by side, with broken lines between them to be cut
 unfoldable pub cut_style : List ℕ
 cut_style =
-    codes "main{gap:0;grid-template-columns:repeat(auto-fill,minmax(10.5rem,1fr))}\n"
+    codes "main{gap:0;grid-template-columns:repeat(auto-fill,minmax(min(13.5rem,100%),1fr))}\n"
     ++ codes ".slip{display:grid;grid-template-columns:1fr auto;align-items:start;gap:.3rem;"
     ++ codes "padding:.7rem;border:1px dashed #777;white-space:nowrap;overflow:auto;"
     ++ codes "break-inside:avoid}\n"

@@ -30,7 +30,7 @@ fn cut_style() -> &'static [u8]
     ensures value { result.now ≡ cut_style }
     ensures most { length result.now ≤ 300 }
 {
-    b"main{gap:0;grid-template-columns:repeat(auto-fill,minmax(10.5rem,1fr))}\n\
+    b"main{gap:0;grid-template-columns:repeat(auto-fill,minmax(min(13.5rem,100%),1fr))}\n\
     .slip{display:grid;grid-template-columns:1fr auto;align-items:start;gap:.3rem;padding:.7rem;\
     border:1px dashed #777;white-space:nowrap;overflow:auto;break-inside:avoid}\n"
 }

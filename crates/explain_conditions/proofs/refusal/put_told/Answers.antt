@@ -1,7 +1,7 @@
 use Rattle.std.proofs.Common.{[], append-nil, refl, string_bytes, sym}
 use Rattle.explain_conditions.specs.Explanation.{Nothing}
 use Rattle.explain_conditions.proofs.Appending.{shows}
-use Rattle.explain_conditions.proofs.refusal.put_no_definition.Goals as goal
+use Rattle.explain_conditions.proofs.refusal.put_told.Goals as goal
 
 pub returns : goal.returns
 returns c =
