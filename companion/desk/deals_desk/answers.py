@@ -34,6 +34,7 @@ ON_A_PAGE = (
     (re.compile(r'the text itself goes here; from a file: "\$\(cat FILE\)"'), "the text itself goes here"),
     (re.compile(r'the shell reads a file in double quotes alone: "\$\(cat FILE\)"'), "the text itself goes here"),
     (re.compile(r"gives such names: --let .*"), "has such names: copy them to the beginning"),
+    (re.compile(r"; names for all texts go in --let"), ": copy its definition to the beginning"),
     (re.compile(r"of that: --lesson .*"), "of that, to start from on the page Lesson"),
     (re.compile(r"deals lessons has (.*), as .*"), r"the page Lesson has \1 to start from"),
     (re.compile(r"deals count --of"), "the page How often?"),
