@@ -1,6 +1,6 @@
 -- Which failure is due first.
 use Rattle.std.proofs.Common.{◌≡◌, ◌≢◌, ◌⊎◌, ◌<◌, ◌+◌, ◌^◌, ◌||◌, ◌==◌, ◌∙◌, ◌++◌, ℕ, zero, suc, Bool, true, false}
-use Rattle.std.proofs.Common.{List, [], ◌∷◌, Option, Some, refl, sym, ap, inl, inr, nat_lt, option_map, arith}
+use Rattle.std.proofs.Common.{List, [], ◌∷◌, Option, None, Some, refl, sym, ap, inl, inr, nat_lt, option_map, arith}
 use Rattle.std.proofs.Common.{eqb-true, if◌then◌else◌}
 use Rattle.std.specs.Borrow.{Bor}
 use Rattle.std.proofs.lemmas.Bool.{eqb-false, ltb-true, ltb-false}
@@ -164,6 +164,13 @@ condition_due s l f plan (inl (inr (error, is, due))) = rw is (plan, due)
 condition_due s l f plan (inr (given, inl memory)) = rw memory plan
 condition_due s l f plan (inr (given, inr (error, is, due))) = rw is (plan, given, due)
 
+-- memory ran out, or a text is refused
+condition_status : (s : Search) (f : Failure) → IsConditionFailure s f → (status_of f ≡ 5) ⊎ (status_of f ≡ 3)
+condition_status s f (inl (inl memory)) = rw memory (inl refl)
+condition_status s f (inl (inr (error, is, due))) = rw is (inr refl)
+condition_status s f (inr (given, inl memory)) = rw memory (inl refl)
+condition_status s f (inr (given, inr (error, is, due))) = rw is (inr refl)
+
 -- before anything was done
 condition_refusal : (s : Search) (f : Failure) → IsConditionFailure s f → is_refusal f ≡ true
 condition_refusal s f (inl (inl memory)) = rw memory refl
@@ -227,6 +234,12 @@ questions_due s q (Question By error) plan condition h = (plan, condition, h)
 questions_due s q (Cells name) plan condition h = (plan, condition, h)
 questions_due s q _ plan condition h = absurd h
 
+questions_status : (D : Option (List ℕ)) (q : Questions) (f : Failure) → AreRefused D q f → status_of f ≡ 3
+questions_status D q (Question Of error) h = refl
+questions_status D q (Question By error) h = refl
+questions_status D q (Cells name) h = refl
+questions_status D q _ h = absurd h
+
 questions_refusal : (D : Option (List ℕ)) (q : Questions) (f : Failure) → AreRefused D q f → is_refusal f ≡ true
 questions_refusal D q (Question Of error) h = refl
 questions_refusal D q (Question By error) h = refl
@@ -238,6 +251,31 @@ pub count_run_due : (s : Search) (q : Questions) (c : Cause) → IsPlanned s num
     → (subject : Subject) → IsAsked s.let_text q subject → IsCountDue s q (Interrupted c)
 count_run_due s q cause.Memory plan condition subject asked = plan
 count_run_due s q _ plan condition subject asked = (plan, condition, (subject, asked))
+
+-- the first of some refusals is due only where one of them is
+abbrev MeetsAll : List Failure → Search → Look → Type 0
+MeetsAll [] s l = Unit {0}
+MeetsAll (refusal ∷ rest) s l = Meets s l refusal × MeetsAll rest s l
+
+one_unmet : (xs : List Failure) (s : Search) (l : Look) (f : Failure) → IsFirstOf xs s l f → MeetsAll xs s l → ⊥
+one_unmet [] s l f h all = h
+one_unmet (x ∷ xs) s l f (inl h) all = h.1 all.0
+one_unmet (x ∷ xs) s l f (inr h) all = one_unmet xs s l f h.1 all.1
+
+labels_met : (s : Search) (l : Look) → HasLabels l → MeetsAll of_labels s l
+labels_met s l t = (t.event, (t.site, (t.date, tt)))
+
+plan_met : (s : Search) (l : Look) → IsPlanned s l → MeetsAll (of_numbers ++ of_labels) s l
+plan_met s l p =
+    let n = p.numbers in
+    (n.candidates, (n.workers, (n.lane, (n.boards, (n.first_board, labels_met s l p.labels)))))
+
+-- there is no plan
+unplanned : (s : Search) (l : Look) (f : Failure) → IsPlanDue s l f → (status_of f ≡ 2) × (IsPlanned s l → ⊥)
+unplanned s l (Plan error) h = (refl, λ p. one_unmet (of_numbers ++ of_labels) s l (Plan error) h (plan_met s l p))
+unplanned s l (Label name) h = (refl, λ p. one_unmet (of_numbers ++ of_labels) s l (Label name) h (plan_met s l p))
+unplanned s l (Hand seat) (n, t, first) = (refl, λ p. let bad : None ≡ Some seat = sym p.hands ∙ first in cc)
+unplanned s l _ h = absurd h
 
 -- nothing was done before it
 pub plan_refusal : (s : Search) (l : Look) (f : Failure) → IsPlanDue s l f → is_refusal f ≡ true
@@ -283,45 +321,48 @@ either_way s l true notices f h = record {
 }
 
 pub make_refused : (s : Search) (l : Look) (tricks : Bool) (notices : Notices) (f : Failure)
-    → (status_of f ≡ 2) × (IsPlanned s l → ⊥) → IsPlanDue s l f → IsRefused (make s l tricks notices) f
-make_refused s l tricks notices f refused due = either_way s l tricks notices f (record {
-  due = make_plan_due s l f due;
-  status = refused_plan (make s l false notices) (status_of f) refused.0 refused.1;
-  nothing_done = plan_refusal s l f due;
-})
+    → IsPlanDue s l f → IsRefused (make s l tricks notices) f
+make_refused s l tricks notices f due =
+    let no_plan = unplanned s l f due in either_way s l tricks notices f (record {
+      due = make_plan_due s l f due;
+      status = refused_plan (make s l false notices) (status_of f) no_plan.0 no_plan.1;
+      nothing_done = plan_refusal s l f due;
+    })
 
 pub pick_refused : (seed : ℕ) (hands : GivenHands) (l : Look) (tricks : Bool) (hints : When) (f : Failure)
-    → (status_of f ≡ 2) × (IsPlanned (no_search seed hands) l → ⊥) → IsPlanDue (no_search seed hands) l f
-    → IsRefused (pick seed hands l tricks hints) f
-pick_refused seed hands l tricks hints f refused due = record {
-  due = pick_plan_due (no_search seed hands) l f due;
-  status = refused_plan (pick seed hands l tricks hints) (status_of f) refused.0 refused.1;
-  nothing_done = plan_refusal (no_search seed hands) l f due;
-}
+    → IsPlanDue (no_search seed hands) l f → IsRefused (pick seed hands l tricks hints) f
+pick_refused seed hands l tricks hints f due =
+    let no_plan = unplanned (no_search seed hands) l f due in record {
+      due = pick_plan_due (no_search seed hands) l f due;
+      status = refused_plan (pick seed hands l tricks hints) (status_of f) no_plan.0 no_plan.1;
+      nothing_done = plan_refusal (no_search seed hands) l f due;
+    }
 
 -- of the labels alone
-show_labels_due : (l : Look) (f : Failure) → IsFirstOf of_labels (plain_search 0) l f → IsShowDue l f × (is_refusal f ≡ true)
-show_labels_due l f (inl h) = rw h.0 (inl (refl, h.1), refl)
-show_labels_due l f (inr (event, inl h)) = rw h.0 (inr (event, inl (refl, h.1)), refl)
-show_labels_due l f (inr (event, inr (site, inl h))) = rw h.0 (inr (event, inr (site, inl (refl, h.1))), refl)
+show_labels_due : (l : Look) (f : Failure) → IsFirstOf of_labels (plain_search 0) l f
+    → IsShowDue l f × (is_refusal f ≡ true) × (status_of f ≡ 2)
+show_labels_due l f (inl h) = rw h.0 (inl (refl, h.1), refl, refl)
+show_labels_due l f (inr (event, inl h)) = rw h.0 (inr (event, inl (refl, h.1)), refl, refl)
+show_labels_due l f (inr (event, inr (site, inl h))) = rw h.0 (inr (event, inr (site, inl (refl, h.1))), refl, refl)
 show_labels_due l f (inr (event, inr (site, inr h))) = absurd h.1
 
-pub show_refused : (l : Look) (hints : When) (f : Failure) → (status_of f ≡ 2) × (HasLabels l → ⊥)
-    → IsFirstOf of_labels (plain_search 0) l f → IsRefused (show l hints) f
-show_refused l hints f refused due = record {
-  due = (show_labels_due l f due).0;
-  status = refused_plan (show l hints) (status_of f) refused.0 refused.1;
-  nothing_done = (show_labels_due l f due).1;
-}
+pub show_refused : (l : Look) (hints : When) (f : Failure) → IsFirstOf of_labels (plain_search 0) l f → IsRefused (show l hints) f
+show_refused l hints f due =
+    let shown = show_labels_due l f due in record {
+      due = shown.0;
+      status = refused_plan (show l hints) (status_of f) shown.2
+          (λ t. one_unmet of_labels (plain_search 0) l f due (labels_met (plain_search 0) l t));
+      nothing_done = shown.1;
+    }
 
 pub count_refused : (s : Search) (q : Questions) (style : TableStyle) (notices : Notices) (f : Failure)
-    → (status_of f ≡ 2) × (IsPlanned s numbers_look → ⊥) → IsPlanDue s numbers_look f
-    → IsRefused (count s q style notices) f
-count_refused s q style notices f refused due = record {
-  due = count_plan_due s q f due;
-  status = refused_plan (count s q style notices) (status_of f) refused.0 refused.1;
-  nothing_done = plan_refusal s numbers_look f due;
-}
+    → IsPlanDue s numbers_look f → IsRefused (count s q style notices) f
+count_refused s q style notices f due =
+    let no_plan = unplanned s numbers_look f due in record {
+      due = count_plan_due s q f due;
+      status = refused_plan (count s q style notices) (status_of f) no_plan.0 no_plan.1;
+      nothing_done = plan_refusal s numbers_look f due;
+    }
 
 -- the status of what is refused after the plan
 refused_later : (w : Wish) (f : Failure) → (status_of f ≡ 5) ⊎ (status_of f ≡ 3) → (parts_of w).plan
@@ -331,24 +372,28 @@ refused_later w f (inr is) plan memory =
     refused_meaning w (status_of f) is plan (λ meaning. let five : status_of f ≡ 5 = memory meaning in omega (arith, is, five))
 
 pub count_condition_refused : (s : Search) (q : Questions) (style : TableStyle) (notices : Notices) (f : Failure)
-    → IsPlanned s numbers_look → (status_of f ≡ 5) ⊎ (status_of f ≡ 3)
-    → ((form : Form) → Means s form → status_of f ≡ 5) → IsConditionFailure s f → IsRefused (count s q style notices) f
-count_condition_refused s q style notices f plan status memory due = record {
+    → IsPlanned s numbers_look → ((form : Form) → Means s form → status_of f ≡ 5) → IsConditionFailure s f
+    → IsRefused (count s q style notices) f
+count_condition_refused s q style notices f plan memory due = record {
   due = count_condition_due s q f plan due;
-  status = refused_later (count s q style notices) f status plan (λ meaning. memory meaning.0.0 meaning.0.1);
+  status = refused_later (count s q style notices) f (condition_status s f due) plan (λ meaning. memory meaning.0.0 meaning.0.1);
   nothing_done = condition_refusal s f due;
 }
 
 pub questions_refused : (s : Search) (q : Questions) (style : TableStyle) (notices : Notices) (f : Failure)
     → IsPlanned s numbers_look → (form : Form) → Means s form
-    → (status_of f ≡ 5) ⊎ (status_of f ≡ 3) → ((subject : Subject) → IsAsked s.let_text q subject → status_of f ≡ 5)
+    → ((subject : Subject) → IsAsked s.let_text q subject → status_of f ≡ 5)
     → AreFailure s.let_text q f → IsRefused (count s q style notices) f
-questions_refused s q style notices f plan form means status memory due = record {
+questions_refused s q style notices f plan form means memory due = record {
   due = by_failure due;
-  status = refused_later (count s q style notices) f status plan (λ meaning. memory meaning.1.0 meaning.1.1);
+  status = refused_later (count s q style notices) f (status due) plan (λ meaning. memory meaning.1.0 meaning.1.1);
   nothing_done = refusal due;
 }
   where
+    status : AreFailure s.let_text q f → (status_of f ≡ 5) ⊎ (status_of f ≡ 3)
+    status (inl memory) = rw memory (inl refl)
+    status (inr refused) = inr (questions_status s.let_text q f refused)
+
     by_failure : AreFailure s.let_text q f → IsCountDue s q f
     by_failure (inl memory) = rw memory plan
     by_failure (inr refused) = questions_due s q f plan (form, means) refused
@@ -358,17 +403,9 @@ questions_refused s q style notices f plan form means status memory due = record
     refusal (inr refused) = questions_refusal s.let_text q f refused
 
 pub meaning_refused : (s : Search) (l : Look) (tricks : Bool) (notices : Notices) (f : Failure) → IsPlanned s l
-    → (status_of f ≡ 5) ⊎ (status_of f ≡ 3) → ((form : Form) → Means s form → status_of f ≡ 5)
-    → IsConditionFailure s f → IsRefused (make s l tricks notices) f
-meaning_refused s l tricks notices f plan status memory due = either_way s l tricks notices f (record {
+    → ((form : Form) → Means s form → status_of f ≡ 5) → IsConditionFailure s f → IsRefused (make s l tricks notices) f
+meaning_refused s l tricks notices f plan memory due = either_way s l tricks notices f (record {
   due = condition_due s l f plan due;
-  status = by_status status;
+  status = refused_later (make s l false notices) f (condition_status s f due) plan (λ meaning. memory meaning.0 meaning.1);
   nothing_done = condition_refusal s f due;
 })
-  where
-    no_meaning : status_of f ≡ 3 → HasCondition s → ⊥
-    no_meaning is means = let five : status_of f ≡ 5 = memory means.0 means.1 in omega (arith, is, five)
-
-    by_status : (status_of f ≡ 5) ⊎ (status_of f ≡ 3) → IsStatusOf (make s l false notices) (status_of f)
-    by_status (inl is) = out_of_memory (make s l false notices) (status_of f) is
-    by_status (inr is) = refused_meaning (make s l false notices) (status_of f) is plan (no_meaning is)

@@ -1,9 +1,9 @@
 -- How the refusal of a condition ends the program.
-use Rattle.std.proofs.Common.{◌≡◌, ◌≤◌, ◌⊎◌, ℕ, List, length, Option, Some, refl, ap, sym, ◌∙◌, subst, inl, inr, option_map, arith}
+use Rattle.std.proofs.Common.{◌≡◌, ◌≤◌, ℕ, List, length, Option, Some, refl, ap, sym, ◌∙◌, subst, option_map, arith}
 use Rattle.std.specs.Borrow.{Bor}
 use Rattle.cond_lang.specs.Form.{Form}
 use Rattle.conditions.specs.declared.error.CondError.{CondError}
-use Rattle.conditions.specs.declared.error.CondError.TheVariants.{TooLong, Byte, Word, Number, Syntax, TooManyParts, Memory}
+use Rattle.conditions.specs.declared.error.CondError.TheVariants.{Memory}
 use Rattle.jobs.specs.Failures.{definitions_failure, failure_of, status_of}
 use Rattle.jobs.specs.Makings.{AreGiven, MayBeGiven, TextMeans}
 use Rattle.cond_lang.specs.After.{GivesNames}
@@ -11,14 +11,6 @@ use Rattle.jobs.specs.Statuses.{IsStatusWithInput}
 use Rattle.jobs.specs.declared.failure.Failure.{Failure}
 use Rattle.boards.specs.declared.cause.Cause.TheVariants as cause
 use Rattle.jobs.specs.declared.failure.Failure.TheVariants.{CommandLine, Plan, Label, Hand, Definitions, Condition, Question, Cells, Interrupted}
-
-pub refused_status : (e : CondError) → (status_of (failure_of e) ≡ 5) ⊎ (status_of (failure_of e) ≡ 3)
-refused_status Memory = inl refl
-refused_status x = inr refl
-
-pub refused_definitions : (e : CondError) → (status_of (definitions_failure e) ≡ 5) ⊎ (status_of (definitions_failure e) ≡ 3)
-refused_definitions Memory = inl refl
-refused_definitions x = inr refl
 
 -- a text that means something is refused only where memory ran out
 pub meant_status : (D : Option (List ℕ)) (o : Option (Bor (List ℕ))) (text : Bor (List ℕ)) (e : CondError) → o ≡ Some text

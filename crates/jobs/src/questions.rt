@@ -1,6 +1,6 @@
 //! What the texts of a `count` ask.
 
-ghost use Rattle.std.specs.Prelude.{◌≡◌, ◌⊎◌, ◌≤◌, ◌++◌, ◌∷◌, [], IfErr, IfOk, List, MatchResult};
+ghost use Rattle.std.specs.Prelude.{◌≡◌, ◌≤◌, ◌++◌, ◌∷◌, [], IfErr, IfOk, List, MatchResult};
 ghost use Rattle.std.specs.Prelude.{length, option_map};
 ghost use Rattle.cond_lang.specs.Asking.{SpellsQuestion};
 ghost use Rattle.conditions.specs.Questions.{Question as AQuestion, parts_asked};
@@ -55,7 +55,6 @@ fn asked_of(
         → IsQuestion (option_map (λ t. t.now) definitions.entry) text.now b → b ≡ a) }
     ensures refused { IfErr result
         (IsTextFailure (option_map (λ t. t.now) definitions.entry) name text.now) }
-    ensures status { IfErr result (λ e. (status_of e ≡ 5) ⊎ (status_of e ≡ 3)) }
     ensures memory { IfErr result (λ e. (b : ATitledQuestion)
         → IsQuestion (option_map (λ t. t.now) definitions.entry) text.now b
         → status_of e ≡ 5) }
@@ -88,7 +87,6 @@ pub(crate) fn read_subject(
         (questions_of questions.now) (subject_of s)) }
     ensures refused { IfErr result (AreFailure (option_map (λ t. t.now) definitions.entry)
         (questions_of questions.now)) }
-    ensures status { IfErr result (λ e. (status_of e ≡ 5) ⊎ (status_of e ≡ 3)) }
     ensures memory { IfErr result (λ e. (s : ASubject)
         → IsAsked (option_map (λ t. t.now) definitions.entry) (questions_of questions.now) s
         → status_of e ≡ 5) }
@@ -114,7 +112,6 @@ fn read_texts(
         → t ≡ subject_of s) }
     ensures refused { IfErr result (AreFailure (option_map (λ t. t.now) definitions.entry)
         (questions_of questions.now)) }
-    ensures status { IfErr result (λ e. (status_of e ≡ 5) ⊎ (status_of e ≡ 3)) }
     ensures memory { IfErr result (λ e. (s : ASubject)
         → Asks (option_map (λ t. t.now) definitions.entry) (questions_of questions.now) s
         → status_of e ≡ 5) }
@@ -147,7 +144,6 @@ fn read_each(
         → b ≡ v.items) }
     ensures refused { IfErr result (AreFailure (option_map (λ t. t.now) definitions.entry)
         (each_question (texts_of texts.now))) }
-    ensures status { IfErr result (λ e. (status_of e ≡ 5) ⊎ (status_of e ≡ 3)) }
     ensures memory { IfErr result (λ e. (b : List ATitledQuestion)
         → AskEach (option_map (λ t. t.now) definitions.entry) (texts_of texts.now) b
         → status_of e ≡ 5) }

@@ -1,6 +1,6 @@
 //! What the texts of a search and a look mean, and the plan of both.
 
-ghost use Rattle.std.specs.Prelude.{◌≡◌, ◌⊎◌, ◌↔◌, IfErr, IfOk, IfSome, IsSome, Some, option_map};
+ghost use Rattle.std.specs.Prelude.{◌≡◌, ◌↔◌, IfErr, IfOk, IfSome, IsSome, Some, option_map};
 ghost use Rattle.cond_lang.specs.Form.{Form};
 ghost use Rattle.jobs.specs.Failures.{status_of};
 ghost use Rattle.jobs.specs.Makings.{BothMean, MayBeGiven, Means, TextMeans, CanDate, CanLabel};
@@ -27,7 +27,6 @@ use std::alloc::Global;
 /// Accepts definitions alone, where some are given.
 fn read_definitions(alloc: Global, given: Option<&str>) -> Result<(), Failure>
     ensures given { IfOk result (λ _. MayBeGiven (option_map (λ t. t.now) given.entry)) }
-    ensures refused { IfErr result (λ e. (status_of e ≡ 5) ⊎ (status_of e ≡ 3)) }
     ensures memory { IfErr result (λ e.
         MayBeGiven (option_map (λ t. t.now) given.entry) → status_of e ≡ 5) }
     ensures due { IfErr result (IsDefinitionsFailure (option_map (λ t. t.now) given.entry)) }
@@ -62,7 +61,6 @@ fn read_text(alloc: Global, definitions: Option<&str>, given: Option<&str>) -> R
     requires { MayBeGiven (option_map (λ t. t.now) definitions) }
     ensures meant { IfOk result (TextMeans (option_map (λ t. t.now) definitions.entry)
         (option_map (λ t. t.now) given.entry)) }
-    ensures refused { IfErr result (λ e. (status_of e ≡ 5) ⊎ (status_of e ≡ 3)) }
     ensures memory { IfErr result (λ e. (f : Form)
         → TextMeans (option_map (λ t. t.now) definitions.entry)
         (option_map (λ t. t.now) given.entry) f → status_of e ≡ 5) }
@@ -81,7 +79,6 @@ fn read_both(alloc: Global, search: &Search<'_>) -> Result<Cond, Failure>
     requires { MayBeGiven (search_of search.now).let_text }
     ensures meant { IfOk result (BothMean (search_of search.now).lesson
         (search_of search.now).let_text (search_of search.now).where_text) }
-    ensures refused { IfErr result (λ e. (status_of e ≡ 5) ⊎ (status_of e ≡ 3)) }
     ensures memory { IfErr result (λ e. (f : Form)
         → BothMean (search_of search.now).lesson (search_of search.now).let_text
         (search_of search.now).where_text f → status_of e ≡ 5) }
@@ -101,7 +98,6 @@ fn read_both(alloc: Global, search: &Search<'_>) -> Result<Cond, Failure>
 /// Returns which deals are accepted, by the definitions, the lesson's condition and the condition.
 pub(crate) fn read_condition(alloc: Global, search: &Search<'_>) -> Result<Cond, Failure>
     ensures meant { IfOk result (Means (search_of search.now)) }
-    ensures refused { IfErr result (λ e. (status_of e ≡ 5) ⊎ (status_of e ≡ 3)) }
     ensures memory { IfErr result (λ e. (f : Form)
         → Means (search_of search.now) f → status_of e ≡ 5) }
     ensures due { IfErr result (IsConditionFailure (search_of search.now)) }
@@ -114,8 +110,6 @@ pub(crate) fn read_condition(alloc: Global, search: &Search<'_>) -> Result<Cond,
 pub(crate) fn read_heading(look: &Look<'_>) -> Result<Captions, Failure>
     ensures made { IfOk result (λ h. h ≡ heading_of (look_of look.now)) }
     ensures sound { IfOk result (λ _. HasLabels (look_of look.now)) }
-    ensures refused { IfErr result (λ e.
-        (status_of e ≡ 2) × (HasLabels (look_of look.now) → ⊥)) }
     ensures due { IfErr result (λ e. (s : ASearch)
         → IsFirstOf of_labels s (look_of look.now) e) }
 {
@@ -193,8 +187,6 @@ fn numbers_of(search: &Search<'_>, look: &Look<'_>) -> Result<Plan, PlanError>
           fixed = none_fixed;
         }) }
     ensures sound { IfOk result (λ _. HasNumbers (search_of search.now) (look_of look.now)) }
-    ensures refused { IfErr result (λ _.
-        HasNumbers (search_of search.now) (look_of look.now) → ⊥) }
     ensures due { IfErr result (λ e.
         IsFirstOf of_numbers (search_of search.now) (look_of look.now) (Failure.Plan e)) }
 {
@@ -219,8 +211,6 @@ fn numbers_of(search: &Search<'_>, look: &Look<'_>) -> Result<Plan, PlanError>
 fn fixed_of(search: &Search<'_>) -> Result<Fixed, Failure>
     ensures made { IfOk result (λ f. f ≡ fixed_of (search_of search.now).hands) }
     ensures sound { IfOk result (λ _. HasHands (search_of search.now)) }
-    ensures refused { IfErr result (λ e.
-        (status_of e ≡ 2) × (HasHands (search_of search.now) → ⊥)) }
     ensures due { IfErr result (IsFirstHand (search_of search.now)) }
 {
     match search.hands.read() {
@@ -240,8 +230,6 @@ pub fn planned(search: &Search<'_>, look: &Look<'_>) -> Result<(Plan, Captions),
     ensures made { IfOk result (λ p. p.0 ≡ plan_of (search_of search.now) (look_of look.now)) }
     ensures heading { IfOk result (λ p. p.1 ≡ heading_of (look_of look.now)) }
     ensures sound { IfOk result (λ _. IsPlanned (search_of search.now) (look_of look.now)) }
-    ensures refused { IfErr result (λ e.
-        (status_of e ≡ 2) × (IsPlanned (search_of search.now) (look_of look.now) → ⊥)) }
     ensures due { IfErr result (IsPlanDue (search_of search.now) (look_of look.now)) }
 {
     let plan = match numbers_of(search, look) {

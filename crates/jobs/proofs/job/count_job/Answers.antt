@@ -10,12 +10,11 @@ returns-in_err-subject-clause-refused c notices =
     let e = c.in_err-subject.ensures in
     rw (p.1, p.2) (questions_refused (search_of c.args.search.now) (questions_of c.args.questions.now) c.args.style
     notices c.in_err-subject.field-0.0 plan
-    c.in_ok-condition.condition c.in_ok-condition.ensures.meant e.status e.memory e.refused)
+    c.in_ok-condition.condition c.in_ok-condition.ensures.meant e.memory e.refused)
 
 pub returns-in_err-plan-clause-refused : goal.returns-in_err-plan-clause-refused
 returns-in_err-plan-clause-refused c notices =
     let p = err_from_is_err_and c.from_residual.result c.from_residual.ensures.1 in
-    let refused = rw c.plain.ensures at c.in_err-plan.ensures.refused in
     let due = rw c.plain.ensures at c.in_err-plan.ensures.due in
     rw (p.1, p.2) (count_refused (search_of c.args.search.now) (questions_of c.args.questions.now) c.args.style
-    notices c.in_err-plan.field-0.0 refused due)
+    notices c.in_err-plan.field-0.0 due)

@@ -1,13 +1,8 @@
 use Rattle.std.proofs.Common.{option_map}
 use Rattle.std.proofs.lemmas.Result.{err_from_is_err_and}
 use Rattle.jobs.proofs.FirstDue.{unread}
-use Rattle.jobs.proofs.Refusals.{meant_status, refused_status}
+use Rattle.jobs.proofs.Refusals.{meant_status}
 use Rattle.jobs.proofs.search.read_text.Goals as goal
-
-pub returns-in_err-parse_given-clause-refused : goal.returns-in_err-parse_given-clause-refused
-returns-in_err-parse_given-clause-refused c =
-    let p = err_from_is_err_and c.from_residual.result c.from_residual.ensures.1 in
-    rw (p.1, p.2) (refused_status c.in_err-parse_given.field-0.0)
 
 pub returns-in_err-parse_given-clause-memory : goal.returns-in_err-parse_given-clause-memory
 returns-in_err-parse_given-clause-memory c =
