@@ -14,6 +14,7 @@ use Rattle.input.specs.declared.refused_line.RefusedLine.{RefusedLine}
 use Rattle.boards.specs.declared.report.Report.{Report}
 use Rattle.jobs.specs.Jobs.{IsReadyRun}
 use Rattle.jobs.specs.declared.boards_job.BoardsJob.{BoardsJob}
+use Rattle.jobs.specs.declared.failure.Failure.{Failure}
 use Rattle.jobs.specs.declared.failure.Failure.TheVariants.{Interrupted, Line, Input}
 use Rattle.requests.specs.Requests.{Look, Search}
 use Rattle.requests.specs.declared.request.Notices.{Notices}
@@ -22,7 +23,7 @@ use Rattle.input.specs.Told.{Tells, Written}
 use Rattle.jobs.specs.Makings.{AreWorkers}
 use Rattle.deals_cli.specs.Runs.{InterruptsRun}
 use Rattle.deals_cli.specs.WithTricks.{TellsBoards}
-use Rattle.deals_cli.specs.internal.Ends.{EndsFinding, EndsReady, Found, Wrote, finding_cause}
+use Rattle.deals_cli.specs.internal.Ends.{EndsFinding, EndsRead, EndsReady, Found, Wrote, finding_cause}
 use Rattle.deals_cli.specs.declared.written.BoardsWritten.{BoardsWritten as Counted}
 use Rattle.deals_cli.proofs.Finding.{accepted_below, accepted_short, found_is_read}
 use Rattle.deals_cli.proofs.OtherWorkers.{worked_end, worked_writes}
@@ -87,28 +88,38 @@ module _ (job : BoardsJob) (w : Written) (found : List ℕ) (before after old ne
     );
   }
 
-  pub ends_output : Tells {T = Unit {0}} w job.plan found (Err picks.Output) before after old new
+  ends_output : Tells {T = Unit {0}} w job.plan found (Err picks.Output) before after old new
       → EndsReady job (Err (Interrupted Output)) before after old new
   ends_output h = record { ends = λ s l tricks notices ready. inl (tells_for s l tricks notices (Err picks.Output) ready h, λ bad. absurd cc) }
 
-  pub ends_line : (line : RefusedLine) → Tells {T = Unit {0}} w job.plan found (Err (picks.Refused line)) before after
+  ends_line : (line : RefusedLine) → Tells {T = Unit {0}} w job.plan found (Err (picks.Refused line)) before after
       old new → EndsReady job (Err (Line line)) before after old new
   ends_line line h = record { ends = λ s l tricks notices ready. tells_for s l tricks notices (Err (picks.Refused line)) ready h }
 
-  pub ends_input : Tells {T = Unit {0}} w job.plan found (Err picks.Input) before after old new → EndsReady job (Err Input) before after old new
+  ends_input : Tells {T = Unit {0}} w job.plan found (Err picks.Input) before after old new → EndsReady job (Err Input) before after old new
   ends_input h = record { ends = λ s l tricks notices ready. tells_for s l tricks notices (Err picks.Input) ready h }
 
   -- where what stands before a fault of the input couldn't be passed on
-  pub line_unflushed : (line : RefusedLine) → Tells {T = Unit {0}} w job.plan found (Err (picks.Refused line)) before
+  line_unflushed : (line : RefusedLine) → Tells {T = Unit {0}} w job.plan found (Err (picks.Refused line)) before
       after old new → EndsReady job (Err (Interrupted Output)) before after old new
   line_unflushed line h = record {
     ends = λ s l tricks notices ready. inr
         (refl, inl (line, tells_for s l tricks notices (Err (picks.Refused line)) ready h));
   }
 
-  pub input_unflushed : Tells {T = Unit {0}} w job.plan found (Err picks.Input) before after old new
+  input_unflushed : Tells {T = Unit {0}} w job.plan found (Err picks.Input) before after old new
       → EndsReady job (Err (Interrupted Output)) before after old new
   input_unflushed h = record { ends = λ s l tricks notices ready. inr (refl, inr (tells_for s l tricks notices (Err picks.Input) ready h)) }
+
+  -- however it ended
+  pub ends_read : (read : Result (Unit {0}) PickFault) (failure : Failure) → Tells w job.plan found read before after old new
+      → EndsRead {U = Unit {0}} read (Err failure) → EndsReady job (Err failure) before after old new
+  ends_read (Err picks.Output) (Interrupted Output) h ends = ends_output h
+  ends_read (Err (picks.Refused line)) (Interrupted Output) h ends = line_unflushed line h
+  ends_read (Err picks.Input) (Interrupted Output) h ends = input_unflushed h
+  ends_read (Err (picks.Refused line)) (Line refused) h ends = rw ends (ends_line line h)
+  ends_read (Err picks.Input) Input h ends = ends_input h
+  ends_read _ _ h ends = absurd ends
 
 -- the run was interrupted
 pub ends_finding : (job : BoardsJob) (cause : Cause) (at out : Option (List ℕ)) → EndsFinding job.plan job.workers job.condition (Err cause)

@@ -8,6 +8,7 @@
 mod ending;
 mod entry;
 pub mod laws;
+mod passed;
 mod pick_job;
 mod rejected;
 mod seed_job;

@@ -4,7 +4,7 @@ ghost use Rattle.std.specs.Prelude.{◌≡◌, ◌-◌, ◌+◌, ◌^◌, ◌<�
 ghost use Rattle.jobs.specs.Failures.{CountsInput, faults_in, status_of};
 ghost use Rattle.deals_cli.specs.internal.Ends.{CountsPicked, EndsPicked, EndsPicking, FaultsPicked};
 
-use boards::Cause;
+use crate::passed::pass_on;
 use input::Source;
 use input::numbers::PickFault;
 use jobs::{Failure, PickJob};
@@ -98,16 +98,6 @@ pub(crate) fn pick_boards<I: Source, O: Sink>(
     ensures input { CountsInput result (I.faults input.old) (I.faults input.new) }
     ensures flushed { IfErr result (λ e. status_of e ≡ 7 → O.is_flushed out.new) }
 {
-    match pick_read(alloc, job, input, out)? {
-        Ok(()) => Ok(()),
-        Err(PickFault::Output) => Err(Failure::Interrupted(Cause::Output)),
-        Err(PickFault::Refused(line)) => {
-            out.flush()?;
-            Err(Failure::Line(line))
-        }
-        Err(PickFault::Input) => {
-            out.flush()?;
-            Err(Failure::Input)
-        }
-    }
+    let picked = pick_read(alloc, job, input, out)?;
+    pass_on(picked, out)
 }

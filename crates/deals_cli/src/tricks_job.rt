@@ -6,12 +6,12 @@ ghost use Rattle.jobs.specs.Failures.{CountsInput, faults_in, status_of};
 ghost use Rattle.requests.specs.Defaults.{workers_in};
 ghost use Rattle.deals_cli.specs.internal.Ends.{EndsFinding, EndsReady, finding_cause};
 
+use crate::passed::pass_on;
 use crate::workers::worked;
 use crate::written::{BoardsWritten, write_plan};
 use boards::{Captions, Cause, Format, Plan, Report};
 use cond_lang::Cond;
 use input::Source;
-use input::numbers::PickFault;
 use input::tricks::{numbers_of, tell};
 use jobs::{BoardsJob, Failure};
 use notations::AnyPrinter;
@@ -101,21 +101,11 @@ pub(crate) fn write_with_tricks<R: Threads + Wait + Clone + Send + 'static, I: S
     let mut printer = AnyPrinter::with_tricks(alloc, format, show, &heading)?;
     let told = tell(&plan, found.numbers.as_slice(), &mut printer, input, out);
     drop(printer);
-    match told {
-        Ok(()) => Ok(Report {
-            plan,
-            format,
-            candidates: found.written.candidates,
-            boards: found.written.boards,
-        }),
-        Err(PickFault::Output) => Err(Failure::Interrupted(Cause::Output)),
-        Err(PickFault::Refused(line)) => {
-            out.flush()?;
-            Err(Failure::Line(line))
-        }
-        Err(PickFault::Input) => {
-            out.flush()?;
-            Err(Failure::Input)
-        }
-    }
+    pass_on(told, out)?;
+    Ok(Report {
+        plan,
+        format,
+        candidates: found.written.candidates,
+        boards: found.written.boards,
+    })
 }

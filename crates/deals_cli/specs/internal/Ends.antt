@@ -149,6 +149,15 @@ PicksFor job result before after old new =
     PicksAs job.tricks job.format job.show (captions_in job.format job.heading) job.plan result
     before after old new
 
+-- how a job ends whose input was read so: the output may also fail where what is before a fault of
+-- the input is passed on
+abbrev pub EndsRead : {T U : Type 0} → Result T PickFault → Result U Failure → Type 0
+EndsRead (Ok value) (Ok done) = Unit {0}
+EndsRead (Err fault) (Err (Interrupted Output)) = Unit {0}
+EndsRead (Err (picks.Refused line)) (Err (Line refused)) = refused ≡ line
+EndsRead (Err picks.Input) (Err Input) = Unit {0}
+EndsRead read result = ⊥
+
 -- picking wrote all boards, or ended with a fault. The output may also fail where what is
 -- before a fault of the input is passed on
 abbrev pub EndsPicking : {T : Type 0} → PickJob → Result T Failure
