@@ -3,6 +3,7 @@
 ghost use Rattle.std.specs.Prelude.{IfErr, ◌≡◌, ◌-◌, ◌+◌, ◌^◌, ◌<◌};
 ghost use Rattle.jobs.specs.Failures.{CountsInput, faults_in, status_of};
 ghost use Rattle.jobs.specs.Jobs.{IsReady, ReadsInput};
+ghost use Rattle.jobs.specs.declared.job.Job.TheVariants.{Boards};
 ghost use Rattle.requests.specs.Requests.{Wish};
 ghost use Rattle.deals_cli.specs.Served.{Serves};
 ghost use Rattle.deals_cli.specs.Wishes.{language_page};
@@ -103,6 +104,40 @@ fn put_language<O: Sink>(out: &mut O) -> Result<(), SinkFault>
     put_all(out, after.as_bytes())
 }
 
+/// Writes the boards, with tricks or without, as the job says, and returns its report if one is
+/// asked for.
+fn serve_boards<R: Threads + Wait + Clone + Send + 'static, I: Source, O: Sink>(
+    rt: &R,
+    alloc: Global,
+    job: BoardsJob,
+    input: &mut I,
+    out: &mut O,
+) -> Result<Option<Report>, Failure>
+    requires output { O.faults out.old < 2 ^ 64 - 1 }
+    requires input { I.faults input.old < 2 ^ 64 - 1 }
+    ensures serves { (w : Wish) → IsReady w (Boards job) → Serves w result
+        (I.rest input.old) (I.rest input.new) (O.bytes out.old) (O.bytes out.new) }
+    ensures faults { O.faults out.new ≡ O.faults out.old + faults_in result }
+    ensures input { CountsInput result (I.faults input.old) (I.faults input.new) }
+    ensures unread { (ReadsInput (Boards job) → ⊥) → (I.rest input.new ≡ I.rest input.old)
+        × (I.faults input.new ≡ I.faults input.old) }
+    ensures flushed { IfErr result (λ e. status_of e ≡ 7 → O.is_flushed out.new) }
+{
+    let is_reported = job.report;
+    if job.tricks {
+        return match write_with_tricks(rt, alloc, job, input, out) {
+            Ok(report) if is_reported => Ok(Some(report)),
+            Ok(_) => Ok(None),
+            Err(failure) => Err(failure),
+        };
+    }
+    match write_boards(rt, alloc, job, out) {
+        Ok(report) if is_reported => Ok(Some(report)),
+        Ok(_) => Ok(None),
+        Err(cause) => Err(Failure::Interrupted(cause)),
+    }
+}
+
 /// Does the job, and returns its report if one is asked for. It may wait for its workers, and for
 /// its input: only a `pick`, a `show`, boards with tricks and the drawing of a seed read it.
 ///
@@ -133,22 +168,7 @@ pub fn serve<R: Threads + Wait + Clone + Send + 'static, I: Source, O: Sink>(
     ensures flushed { IfErr result (λ e. status_of e ≡ 7 → O.is_flushed out.new) }
 {
     match job {
-        Job::Boards(job) if job.tricks => {
-            let wants_report = job.report;
-            match write_with_tricks(rt, alloc, job, input, out) {
-                Ok(report) if wants_report => Ok(Some(report)),
-                Ok(_) => Ok(None),
-                Err(failure) => Err(failure),
-            }
-        }
-        Job::Boards(job) => {
-            let is_reported = job.report;
-            match write_boards(rt, alloc, job, out) {
-                Ok(report) if is_reported => Ok(Some(report)),
-                Ok(_) => Ok(None),
-                Err(cause) => Err(Failure::Interrupted(cause)),
-            }
-        }
+        Job::Boards(job) => serve_boards(rt, alloc, job, input, out),
         Job::Count(job) => match write_table(rt, alloc, job, out) {
             Ok(()) => Ok(None),
             Err(cause) => Err(Failure::Interrupted(cause)),
