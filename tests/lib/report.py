@@ -2,6 +2,7 @@
 
 A part is a function that yields the name of each thing that it looks at, and what is wrong with it: None where nothing
 is. A part that needs a program which isn't there and can't be installed is skipped and named, and under CI=true fails.
+One that looks at nothing fails.
 """
 
 import concurrent.futures
@@ -14,11 +15,15 @@ import packages
 
 # How many faults of a part are shown.
 SHOWN = 40
+# The parts that were skipped.
+skipped = []
 
 
 def judged(pairs):
-    """The pairs of a name and whether it is right, as what is wrong."""
+    """The pairs of a name and whether it is right, as what is wrong. A text would be taken for right, and is refused."""
     for name, is_right in pairs:
+        if isinstance(is_right, str):
+            raise TypeError(f"{name}: {is_right!r} is a text, and not whether it is right")
         yield name, None if is_right else "wrong"
 
 
@@ -31,12 +36,18 @@ def asked(judge, rows, name=str):
 
 def results(name, part):
     """What a part yields, and what ends it early."""
+    is_empty, before = True, len(skipped)
     try:
-        yield from part()
+        for result in part():
+            is_empty = False
+            yield result
+        if is_empty and len(skipped) == before:
+            yield name, "it looked at nothing"
     except packages.Missing as missing:
         if os.environ.get("CI") == "true":
             yield name, str(missing)
         else:
+            skipped.append(name)
             print(f"SKIPPED: {name}: {missing}")
     except Exception as error:
         yield name, f"{type(error).__name__}: {error}"
