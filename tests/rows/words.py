@@ -2,9 +2,9 @@
 
 A row begins with `$` and the words after `deals`, which bash reads. `< LINE` is a line of its input. Then comes
 the status that it ends with. The lines after `|` are what it writes, those after `!` what it says on standard error;
-where `...` ends them, anything may follow. With no such line it writes or says nothing, but that what it writes is not
-looked at where a row has none of it and ends with 0. `> 381 bytes` and `> 3 boards` count what it writes, and
-`> 80 columns` is the width of its longest line at most.
+where `...` ends them, anything may follow. With no such line it writes or says nothing. `> 381 bytes` and `> 3 boards`
+count what it writes, and `> 80 columns` is the width of its longest line at most; a row may have these alone. It runs
+in the folder of the checkout.
 
 Standard error is a pipe, so of a refusal it has the line alone, or the text of the library that reads words. Where it is
 a terminal more may come below, and a tip of that library that is far from what was tried is left out; `--hints always`
@@ -26,6 +26,11 @@ HERE = pathlib.Path(__file__).resolve().parent
 import board_formats
 import harness
 import report
+
+# A line of a row below its words.
+LINE = re.compile(r"\d|[<|!>]( .*)?")
+# The commands whose `--hints` are tried.
+HINTED = ("make", "find", "count", "pick", "show")
 
 
 def spelled_out(text):
@@ -76,7 +81,7 @@ def counted(text, lines):
 def run(words, given, stderr=subprocess.PIPE):
     """The program's run with these words, as bash reads them."""
     command = ["bash", "-c", f'exec "$0" {words}', harness.PROGRAM]
-    return subprocess.run(command, input=given, stdout=subprocess.PIPE, stderr=stderr)
+    return subprocess.run(command, cwd=harness.TOP, input=given, stdout=subprocess.PIPE, stderr=stderr)
 
 
 def said_on_terminal(words, given):
@@ -104,7 +109,7 @@ def fault_of_hints(words, given, said):
         return f"said {said!r}, and on a terminal {shown!r}"
     if re.search("^  hint: ", said, flags=re.M) or (not said.startswith("error: ") and said.count("\n") != 1):
         return f"said {said!r} to a program"
-    if words.split()[0] in ("make", "find", "pick", "show") and "--format" != words.split()[-1]:
+    if words.split()[0] in HINTED and "--format" != words.split()[-1]:
         always = run(f"{words} --hints always", given).stderr.decode()
         if always.replace(" --hints <WHEN>", "") != shown:
             return f"said {always!r} with --hints always, and on a terminal {shown!r}"
@@ -116,6 +121,9 @@ def fault_of_hints(words, given, said):
 
 def fault_of(words, lines):
     """Why the program's run isn't what the row says, or None."""
+    unread = [line for line in lines if not LINE.fullmatch(line)]
+    if unread:
+        return f"the row has {unread}"
     given = "".join(line + "\n" for line in after(lines, "<")).encode()
     ended = run(words, given)
     (status,) = (int(line) for line in lines if line.isdigit())
@@ -125,8 +133,8 @@ def fault_of(words, lines):
     said = ended.stderr.decode()
     if not re.fullmatch(pattern(after(lines, "!")), said):
         return f"said {said!r}"
-    looked_at = written or status != 0
-    if looked_at and not re.fullmatch(pattern(written), ended.stdout.decode()):
+    is_counted = counts and not written and status == 0
+    if not is_counted and not re.fullmatch(pattern(written), ended.stdout.decode()):
         return f"wrote {ended.stdout.decode()!r}"
     if status in (2, 3):
         fault = fault_of_hints(words, given, said)
