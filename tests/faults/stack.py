@@ -3,9 +3,10 @@
 The program is started as a shell would start it, with nothing loaded beside it and no stack touched before. In a stack
 of the size that docs/TESTING.md names each call has to end as it does in a large one. In an address space that is
 limited to every 100 KiB from 2 to 40 MiB it has to end with its text, with status 5 and 'out of memory', or with
-status 6 and 'thread not started', and never by a signal.
+status 6 and 'thread not started', and never by a signal; in the largest one worker has room for the text.
 """
 
+import errno
 import resource
 import subprocess
 
@@ -18,6 +19,8 @@ SECONDS = 20
 LINES = {5: b"out of memory\n", 6: b"thread not started\n"}
 # What the kernel and the C library's loader say before the program's first instruction.
 NOT_LOADED = 127
+# The address spaces, in KiB.
+SPACES = range(2 * KIB, 40 * KIB + 1, 100)
 
 
 def deepest():
@@ -86,11 +89,13 @@ def of_space(size, workers, text):
     words = ["make", "--seed", "7", "--candidates", "20", "--workers", str(workers)]
     try:
         got, out, err = run(words, resource.RLIMIT_AS, size * KIB)
-    except (subprocess.SubprocessError, OSError):
+    except subprocess.TimeoutExpired:
+        return f"address space of {size} KiB, {workers} workers: it did not end"
+    except (subprocess.SubprocessError, OSError) as error:
         # There was not even room for the program to be started.
-        return None
-    is_right = (got == 0 and out == text) or (got in LINES and not out and err == LINES[got])
-    if is_right or (got == NOT_LOADED and not out):
+        return str(error) if getattr(error, "errno", errno.ENOMEM) != errno.ENOMEM or size == SPACES[-1] else None
+    is_small = got in LINES and not out and err == LINES[got] or got == NOT_LOADED and not out
+    if got == 0 and out == text or is_small and (size, workers) != (SPACES[-1], 1):
         return None
     return f"address space of {size} KiB, {workers} workers: status {got}, {len(out)} bytes, {err[-80:]!r}"
 
@@ -104,5 +109,5 @@ def stacks():
 def spaces():
     """A call in small address spaces."""
     text = model.games(7, 20)
-    rows = [(size, workers) for workers in (1, 3, 16) for size in range(2 * KIB, 40 * KIB + 1, 100)]
+    rows = [(size, workers) for workers in (1, 3, 16) for size in SPACES]
     yield from report.asked(lambda row: of_space(*row, text), rows)
