@@ -253,12 +253,9 @@ def refused():
     serving.need()
     with harness.scratch() as folder:
         with serving.desk("--limits", folder=folder) as desk:
-            for part in PARTS:
-                yield from report.judged(part(desk))
+            yield from report.each(PARTS, desk)
         left = os.listdir(folder)
         yield "no file is left", f"{left}" if left else None
-    yield from report.judged(first_pages())
-    yield from report.judged(broken_off())
-    yield from report.judged(failed_pick())
+    yield from report.each([first_pages, broken_off, failed_pick])
     for number in (signal.SIGTERM, signal.SIGHUP, signal.SIGINT):
         yield from report.judged(ended(number))

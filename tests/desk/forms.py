@@ -157,10 +157,9 @@ def typed():
     with harness.scratch() as cache:
         words = ["/usr/bin/mypy", "--strict", "--no-warn-unused-ignores", f"--cache-dir={cache}", "deals_desk"]
         ended = subprocess.run(words, cwd=folder, capture_output=True, text=True, check=False)
-    return ended.stdout.strip() if ended.returncode else None
+    yield "types", ended.stdout.strip() or f"status {ended.returncode}" if ended.returncode else None
 
 
 def words_of_forms():
-    yield "types", typed()
-    for part in (told, marked, named, hinted, possible, unseen, searched, listed):
-        yield from report.judged(part())
+    yield from report.results("types", typed)
+    yield from report.each([told, marked, named, hinted, possible, unseen, searched, listed])

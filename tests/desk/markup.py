@@ -302,15 +302,5 @@ def pages():
     serving.need()
     with serving.desk() as desk:
         yield from checked(desk)
-        yield from report.judged(empty(desk))
-        yield from report.judged(contracts(desk))
-        yield from report.judged(boards(desk))
-        yield from report.judged(deals_to_try(desk))
-        yield from report.judged(framed(desk))
-        yield from report.judged(mends(desk))
-        yield from report.judged(hints(desk))
-        yield from report.judged(rare(desk))
-        yield from report.judged(secret(desk))
-        yield from report.judged(opened(desk))
-        yield from report.judged(parts(desk))
-        yield from report.judged(alike(desk))
+        judged = [empty, contracts, boards, deals_to_try, framed, mends, hints, rare, secret, opened, parts, alike]
+        yield from report.each(judged, desk)

@@ -11,6 +11,7 @@ import serving
 
 FOLDER = harness.TOP / "companion" / "desk"
 OPTION = re.compile(r"--[a-z-]+")
+ENTRY = pathlib.PurePath("usr/share/applications/deals-desk.desktop")
 
 
 def options_of_man():
@@ -42,17 +43,21 @@ def package():
         root = installed(pathlib.Path(scratch))
         there = root / "usr" / "share" / "deals-desk"
         yield "all its files", {file.relative_to(there) for file in (there / "deals_desk").rglob("*.*")} == sources()
+        yield "the entry that is here", (root / ENTRY).read_bytes() == (FOLDER / ENTRY.name).read_bytes()
         program = root / "usr" / "bin" / "deals-desk"
         with serving.desk(program=program) as desk:
             yield "it serves from there", desk.get("/help").status == 200
-        entry = root / "usr" / "share" / "applications" / "deals-desk.desktop"
-        packages.need("desktop-file-utils", "desktop-file-validate")
-        ended = subprocess.run(["desktop-file-validate", entry], capture_output=True, check=False)
-        yield "its entry in menus", ended.returncode == 0 and not ended.stdout
     yield "its man page has its options", options_of_man() == options_of_help()
     unit = (FOLDER / "deals-desk.service").read_text()
     used = set(OPTION.findall(re.search(r"^ExecStart=.*", unit, re.M)[0]))
     yield "its unit has options that are there", used <= options_of_help()
+
+
+def entry():
+    """Its entry in menus, which the package has as it is here."""
+    packages.need("desktop-file-utils", "desktop-file-validate")
+    ended = subprocess.run(["desktop-file-validate", FOLDER / ENTRY.name], capture_output=True, check=False)
+    yield "its entry in menus", ended.returncode == 0 and not ended.stdout
 
 
 def refused_words():
@@ -81,5 +86,4 @@ def refused_words():
 
 def parts():
     serving.need()
-    yield from report.judged(package())
-    yield from report.judged(refused_words())
+    yield from report.each([package, entry, refused_words])

@@ -156,5 +156,4 @@ def letters(desk):
 def bytes_of_lines():
     serving.need()
     with serving.desk() as desk:
-        for part in (lessons, contracts, letters, counts, nights, searches):
-            yield from report.judged(part(desk))
+        yield from report.each([lessons, contracts, letters, counts, nights, searches], desk)

@@ -53,6 +53,12 @@ def results(name, part):
         yield name, f"{type(error).__name__}: {error}"
 
 
+def each(parts, *given):
+    """What each of these parts yields of what is given, by its own name: whether each thing is right."""
+    for part in parts:
+        yield from results(part.__name__, lambda part=part: judged(part(*given)))
+
+
 def run_part(name, part):
     """Runs a part, and tells how many passed and failed."""
     began = time.monotonic()

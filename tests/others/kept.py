@@ -17,12 +17,13 @@ import subprocess
 import tempfile
 import time
 
+import companion
 import harness
 import report
 import second_solver
 import tricks
 
-PROGRAM = tricks.PROGRAM
+PROGRAM = companion.PROGRAM
 NAMES = "deals-tricks: "
 # Both programs as a shell takes their paths.
 DEALS_WORD, TRICKS_WORD = (shlex.quote(str(path)) for path in (harness.PROGRAM, PROGRAM))
@@ -334,10 +335,11 @@ def pipes():
         # No board is kept after the first, so the end of the reader has to be seen without a write.
         line = f'( cat {file.name}; sleep 30 ) | {{ "$0" --tricks "S-N>=0"; echo $? >&2; }} | head -n 5'
         began = time.monotonic()
-        with subprocess.Popen(["bash", "-c", line, PROGRAM], stdout=subprocess.PIPE, stderr=subprocess.PIPE) as process:
+        settings = {"stdout": subprocess.PIPE, "stderr": subprocess.PIPE, "start_new_session": True}
+        with subprocess.Popen(["bash", "-c", line, PROGRAM], **settings) as process:
             status = process.stderr.readline()
             yield "a reader that leaves", status == b"4\n" and time.monotonic() - began < 10
-            process.kill()
+            os.killpg(process.pid, signal.SIGKILL)
 
 
 def after_find(rare):
@@ -413,7 +415,7 @@ def counted():
 
 def by_rules():
     """The boards that are kept by rules."""
-    tricks.build()
+    companion.build()
     parts = [compared, rows_of_rules, bytes_as_read, added, refused_words, refused_boards]
-    for part in [*parts, endless, streams, no_room, peak, pipes, behind_find, picked_with_tricks, stopped, counted]:
-        yield from report.judged(part())
+    parts += [endless, streams, no_room, peak, pipes, behind_find, picked_with_tricks, stopped, counted]
+    yield from report.each(parts)

@@ -191,5 +191,4 @@ def elsewhere():
 
 def nights():
     os.umask(0o022)
-    for part in (made, days, letters, stopped, without, elsewhere):
-        yield from report.judged(part())
+    yield from report.each([made, days, letters, stopped, without, elsewhere])

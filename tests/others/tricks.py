@@ -11,12 +11,13 @@ import tempfile
 
 HERE = pathlib.Path(__file__).resolve().parent
 TOP = HERE.parent.parent
+import companion
 import harness
 import packages
 import par
 import report
 
-PROGRAM = TOP / "companion" / "out" / "deals-tricks"
+PROGRAM = companion.PROGRAM
 FORM = re.compile(r"[0-9a-d]{20}(?: (NS|EW) (\d{1,4})(?: ([A-Za-z0-9+*=,/-]{1,24}))?)?(?: N:[AKQJT2-9. ]{67})")
 # The deals of DDS's own examples with their tables: spades, hearts, diamonds, clubs and notrump, each for North, East,
 # South and West.
@@ -224,23 +225,19 @@ def package(folder):
     subprocess.run(["dpkg-deb", "-x", made, folder], check=True)
     run = subprocess.run([f"{folder}/usr/bin/deals-tricks"], input=game(GOOD), capture_output=True, text=True, check=False)
     yield "the package's program", run.stdout == line_of(*EXAMPLES[0]) + "\n"
-    man = subprocess.run(["man", "--warnings", "-l", f"{folder}/usr/share/man/man1/deals-tricks.1.gz"],
-                         capture_output=True, text=True, check=False) if packages.is_there("man") else None
-    yield "the man page", man is None or (man.returncode == 0 and not man.stderr and "SYNOPSIS" in man.stdout)
 
 
-def build():
-    """Builds the companion program, where the solver is there."""
-    packages.need("g++", "g++")
-    packages.need("libdds-dev", "/usr/include/dds/dll.h")
-    packages.need("nlohmann-json3-dev", "/usr/include/nlohmann/json.hpp")
-    subprocess.run([TOP / "companion" / "build"], check=True)
+def man_page(folder):
+    """The page of the package that was unpacked there."""
+    packages.need("man-db", "man")
+    words = ["man", "--warnings", "-l", f"{folder}/usr/share/man/man1/deals-tricks.1.gz"]
+    ended = subprocess.run(words, capture_output=True, text=True, check=False)
+    yield "the man page", ended.returncode == 0 and not ended.stderr and "SYNOPSIS" in ended.stdout
 
 
 def tricks():
     """The companion program without rules."""
-    build()
-    for part in (tables, sheets, pars, texts, refusals, passed_on, streams, boards):
-        yield from report.judged(part())
+    companion.build()
+    yield from report.each([tables, sheets, pars, texts, refusals, passed_on, streams, boards])
     with tempfile.TemporaryDirectory() as folder:
-        yield from report.judged(package(folder))
+        yield from report.each([package, man_page], folder)
