@@ -12,6 +12,8 @@ import words
 
 # What a run needs.
 NEEDED = {"--seed": "7", "--candidates": "4", "--count": "3"}
+# How many calls there are at the least.
+LEAST = 300
 # A line for a person: a hint, or an option with what it takes.
 HELP = re.compile(r"^  (hint: |--[a-z-]+ \")", re.M)
 # What is said of a word that an option may not have.
@@ -40,6 +42,7 @@ def valueless(command, own):
 
 
 def calls():
+    """The words of each call that is refused."""
     listed = {name: commands.listed_options(name) for name in commands.commands() if name != "help"}
     every = {row[1]: row for rows in listed.values() for row in rows}
     for command, rows in listed.items():
@@ -98,6 +101,8 @@ def lessons():
 
 def options():
     """Each option that a command lacks, or that lacks its value, the text of each, and the lessons of hints."""
-    yield from report.asked(fault_of, calls())
+    refused = list(calls())
+    yield "how many there are", None if len(refused) >= LEAST else f"{len(refused)} calls"
+    yield from report.asked(fault_of, refused)
     yield from texts()
     yield from lessons()
