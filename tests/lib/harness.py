@@ -100,6 +100,12 @@ def run(command, shim, fault, at, stderr=subprocess.PIPE, given=b""):
     return End(status, out, err or b"", calls, failed, live)
 
 
+def peak_of(process):
+    """The most memory that a process has had so far, in KiB."""
+    told = pathlib.Path(f"/proc/{process.pid}/status").read_text()
+    return int(re.search(r"VmHWM:\s+(\d+) kB", told).group(1))
+
+
 def usual_signals():
     """A job in the background, or one under nohup, is started with these ignored, and so would be what it starts."""
     for number in (signal.SIGINT, signal.SIGQUIT, signal.SIGHUP):

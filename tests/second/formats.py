@@ -9,9 +9,7 @@ import fcntl
 import hashlib
 import itertools
 import os
-import pathlib
 import random
-import re
 import subprocess
 
 import board_formats
@@ -110,7 +108,10 @@ def chosen():
         yield [*words, "--points", "show"], b"", notation.text(11, 40, form, labels=labels, show=show)
         lines = [random_line(rng) for _ in range(40)]
         wanted = notation.text(11, 40, form, labels=labels, show=show, lines=lines)
-        yield [*words, "--tricks"], "".join(line + "\n" for line in lines).encode(), wanted
+        given = "".join(line + "\n" for line in lines).encode()
+        yield [*words, "--tricks"], given, wanted
+        wanted = notation.text(11, 40, form, labels=labels, show=show, lines=lines, has_points=False)
+        yield [*words, "--tricks", "--points", "hide"], given, wanted
 
 
 def strong(hands):
@@ -159,10 +160,10 @@ def peak(form, boards):
     os.close(writer)
     with open(reader, "rb") as text:
         taken = len(text.read(length - 2 * PAGE))
-        found = pathlib.Path(f"/proc/{process.pid}/status").read_text()
+        most = harness.peak_of(process)
         taken += len(text.read())
     is_whole = process.wait() == 0 and taken == length > 50 * boards
-    return int(re.search(r"VmHWM:\s+(\d+) kB", found).group(1)) if is_whole else None
+    return most if is_whole else None
 
 
 def constant_memory():

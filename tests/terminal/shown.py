@@ -5,7 +5,6 @@ in JSON, which are left out.
 """
 
 import os
-import pathlib
 import re
 import subprocess
 
@@ -21,7 +20,8 @@ MADE = [
     ["--first-board", "17", "--date", "2024.05.01"],
     ["--first-board", "1099511627770"],
 ]
-BOTH = [[], ["--show", "dealer"], ["--show", "ew"], LABELS]
+BOTH = [[], *(["--show", who] for who in ("dealer", "north", "east", "south", "west", "ns", "ew")), LABELS]
+BOTH += [["--points", "hide"], ["--points", "show", "--show", "all"]]
 BOARDS = ["make", "--seed", "0", "--boards", "6"]
 
 # The first deal of seed 0, which POSIX's drand48 draws, as a game of PBN.
@@ -151,10 +151,9 @@ def many_games():
     )
     process.stdin.write(games)
     process.stdin.flush()
-    found = pathlib.Path(f"/proc/{process.pid}/status").read_text()
+    peak = harness.peak_of(process)
     process.stdin.close()
     right = process.wait(LONGEST) == 0
-    peak = int(re.search(r"VmHWM:\s+(\d+) kB", found).group(1))
     yield "many games", None if right else f"status {process.returncode}"
     yield "memory", None if peak < MOST_MEMORY else f"{peak} KiB"
 
