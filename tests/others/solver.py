@@ -33,6 +33,7 @@ def turned(make, folder):
     program = solver(folder)
     words = ["--seed", "2026", "--candidates", str(BOARDS)]
     straight, rotated = (list(solved(program, make(*words, *more))) for more in ([], ["--rotate"]))
+    yield "libdds, how many boards", None if len(straight) == BOARDS else f"{len(straight)}, and not {BOARDS}"
     for index, (before, after) in enumerate(zip(straight, rotated, strict=True)):
         dealer = index % 4
         if before is None or after is None:

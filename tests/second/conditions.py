@@ -35,8 +35,8 @@ CANDIDATES = 20_000
 # How many random conditions there are, and of how many candidates each is asked.
 RANDOM = 20_000 if report.has("many") else 2_000
 ASKED = 48
-# How many worked conditions there are at the least.
-WORKED = 20
+# How many worked conditions and how many examples there are at the least.
+WORKED, EXAMPLES = 20, 13
 # How many lessons there are, and of how many candidates the condition of each is asked.
 LESSONS, TAUGHT = 67, 4_000
 # The pack has forty points: true of each candidate, and false of each.
@@ -139,7 +139,8 @@ def worked_conditions():
     chosen = [(complaint, name, text, deals()) for name, text in [*worked(), *examples()]]
     # A lesson may be rarer than one in these candidates.
     taught = [(random_complaint, name, text, deals(), TAUGHT) for name, text in lessons()]
-    yield "how many there are", None if len(list(worked())) >= WORKED and len(taught) == LESSONS else "fewer than there were"
+    is_whole = len(list(worked())) >= WORKED and len(list(examples())) >= EXAMPLES and len(taught) == LESSONS
+    yield "how many there are", None if is_whole else "fewer than there were"
     with concurrent.futures.ProcessPoolExecutor(len(os.sched_getaffinity(0))) as pool:
         tried = [(name, pool.submit(judge, *asked)) for judge, name, *asked in [*chosen, *taught]]
         for name, outcome in tried:

@@ -113,9 +113,12 @@ def judged(lesson, *asked):
 
 
 def numbers(*asked):
-    """The numbers of the deals that these words ask for."""
+    """The numbers of the deals that these words ask for, of which there are some."""
     words = ["--seed", SEED, "--candidates", "200000", "--workers", "auto"]
-    return {int(line) for line in harness.deals("find", *words, *asked).stdout.split()}
+    found = harness.deals("find", *words, *asked)
+    if found.returncode or not found.stdout:
+        raise ValueError(f"{asked}: status {found.returncode}, {found.stderr.decode()}")
+    return {int(line) for line in found.stdout.split()}
 
 
 def made(*asked):

@@ -114,14 +114,15 @@ def complaint_of_each(deals, style, where, questions, first, count, boards):
     kinds, answers, tried = expected(deals, where, questions, first, count, boards)
     found = [[answer[at] for answer in answers] for at in range(len(questions))]
     wanted = "\n".join(counts.each(style, questions, kinds, found, tried)) + "\n"
-    return None if run.stdout.decode() == wanted else f"status {run.returncode}: {run.stdout.decode()!r} for {wanted!r}"
+    is_right = (run.returncode, run.stdout.decode(), run.stderr) == (0, wanted, b"")
+    return None if is_right else f"status {run.returncode}: {run.stdout.decode()!r} for {wanted!r}, {run.stderr!r}"
 
 
 def complaint(deals, style, where, questions, first, count, boards):
     """What is wrong with the program's answer, or None."""
     words = words_of(style, where, questions, first, count, boards)
     run = subprocess.run([harness.PROGRAM, *words], capture_output=True, check=False)
-    if run.returncode != 0:
+    if run.returncode != 0 or run.stderr:
         return f"status {run.returncode}: {run.stderr.decode()}"
     kinds, answers, tried = expected(deals, where, questions, first, count, boards)
     written = run.stdout.decode()
