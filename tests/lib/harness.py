@@ -4,6 +4,7 @@ import dataclasses
 import os
 import pathlib
 import re
+import select
 import signal
 import struct
 import subprocess
@@ -98,6 +99,20 @@ def run(command, shim, fault, at, stderr=subprocess.PIPE, given=b""):
     calls, failed, live = REPORT.unpack(os.pread(report, REPORT.size, 0))
     os.close(report)
     return End(status, out, err or b"", calls, failed, live)
+
+
+def line_by_line(words, pieces):
+    """The line that a run writes after each piece of its input, before the next is given: empty where none comes in
+    time. Then the rest, and its status."""
+    lines = []
+    with subprocess.Popen([PROGRAM, *words], stdin=subprocess.PIPE, stdout=subprocess.PIPE, bufsize=0) as process:
+        for piece in pieces:
+            process.stdin.write(piece)
+            is_there = select.select([process.stdout], [], [], SECONDS)[0]
+            lines.append(process.stdout.readline() if is_there else b"")
+        process.stdin.close()
+        rest = process.stdout.read()
+    return lines, rest, process.returncode
 
 
 def peak_of(process):

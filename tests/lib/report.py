@@ -20,7 +20,7 @@ skipped = []
 
 
 def judged(pairs):
-    """The pairs of a name and whether it is right, as what is wrong. A text would be taken for right, and is refused."""
+    """The pairs of a name and whether it is right, as what is wrong. A text, which would be taken for right, fails."""
     for name, is_right in pairs:
         if isinstance(is_right, str):
             raise TypeError(f"{name}: {is_right!r} is a text, and not whether it is right")

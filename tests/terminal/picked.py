@@ -129,19 +129,10 @@ def other_inputs():
 
 def line_by_line():
     """A board is on the output before the next number is given."""
-    process = subprocess.Popen(
-        [harness.PROGRAM, "pick", "--seed", "0", "--format", "lin"], stdin=subprocess.PIPE, stdout=subprocess.PIPE
-    )
-    lines = []
-    for number in (b"1\n", b"2\n", b"1\n"):
-        process.stdin.write(number)
-        process.stdin.flush()
-        lines.append(process.stdout.readline())
-    process.stdin.close()
-    rest = process.stdout.read()
-    whole = harness.deals("pick", "--seed", "0", "--format", "lin", given=b"1\n2\n1\n").stdout
-    right = process.wait() == 0 and b"".join(lines) + rest == whole
-    yield "a board at once", None if right else repr(lines)
+    words, numbers = ["pick", "--seed", "0", "--format", "lin"], [b"1\n", b"2\n", b"1\n"]
+    whole = harness.deals(*words, given=b"".join(numbers)).stdout
+    told = harness.line_by_line(words, numbers)
+    yield "a board at once", None if told == (whole.splitlines(keepends=True), b"", 0) else repr(told)
 
 
 def closed_output():

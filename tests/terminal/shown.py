@@ -129,18 +129,8 @@ def other_inputs():
 
 def game_by_game():
     """A board is on the output before the next game is given."""
-    process = subprocess.Popen(
-        [harness.PROGRAM, "show", "--format", "lin"], stdin=subprocess.PIPE, stdout=subprocess.PIPE
-    )
-    lines = []
-    for _ in range(2):
-        process.stdin.write(DEAL + b"\n")
-        process.stdin.flush()
-        lines.append(process.stdout.readline())
-    process.stdin.close()
-    rest = process.stdout.read()
-    right = process.wait() == 0 and lines == [LINE, OTHER] and rest == b""
-    yield "a board at once", None if right else repr(lines)
+    told = harness.line_by_line(["show", "--format", "lin"], [DEAL + b"\n"] * 2)
+    yield "a board at once", None if told == ([LINE, OTHER], b"", 0) else repr(told)
 
 
 def many_games():

@@ -29,20 +29,6 @@ def words_of(kind, form):
     return ["make", "--seed", "9", "--format", form, *(RARE if kind == "rare" else EVERY)]
 
 
-def read_all(descriptor):
-    """All that a terminal was given, until nobody can write."""
-    pieces = []
-    while True:
-        try:
-            piece = os.read(descriptor, 1 << 20)
-        except OSError:
-            piece = b""
-        if not piece:
-            os.close(descriptor)
-            return b"".join(pieces)
-        pieces.append(piece)
-
-
 def stopped(words, into, seconds):
     """What is on the output of a run that is stopped after this many seconds, and what it drew on the terminal.
 
@@ -58,13 +44,15 @@ def stopped(words, into, seconds):
             [*stop, harness.PROGRAM, *words], stdin=subprocess.DEVNULL, stdout=output, stderr=drawn_on
         )
         os.close(drawn_on)
-        drawn = readers.submit(read_all, terminal)
+        drawn = readers.submit(harness.all_of, terminal)
         process.wait()
         if cat:
             cat.stdin.close()
             cat.wait()
         file.seek(0)
-        return file.read(), drawn.result()
+        shown = drawn.result()
+        os.close(terminal)
+        return file.read(), shown
 
 
 def text_of(words):
@@ -84,20 +72,20 @@ def whole_text(kind, form, boards):
 
 
 def fault_of(kind, into, form, seconds):
-    """What is wrong with the output of a stopped run, or None."""
+    """What is wrong with the output of a stopped run, or None; and how many boards it has."""
     words = words_of(kind, form)
     out, drawn = stopped(words, into, seconds)
     begun = len(re.findall(b"^" + TABLE[form].begins, out, re.M))
     is_whole = out.endswith(TABLE[form].ends) if begun else out in (b"", whole_text(kind, form, 0))
     # A board may be cut before it is counted.
     if not whole_text(kind, form, begun + 1).startswith(out):
-        return f"{len(out)} bytes that don't begin the right text"
+        return f"{len(out)} bytes that don't begin the right text", begun
     if kind == "rare" and not is_whole:
-        return f"{len(out)} bytes, and the last board is cut"
+        return f"{len(out)} bytes, and the last board is cut", begun
     told = [int(text.replace(b",", b"")) for text in COUNTED.findall(drawn)]
     if told and told[-1] > begun - (not is_whole):
-        return f"{begun} boards, and the counts told {told[-1]}"
-    return None
+        return f"{begun} boards, and the counts told {told[-1]}", begun
+    return None, begun
 
 
 def every(runs):
@@ -105,6 +93,10 @@ def every(runs):
     dice = random.Random()
     kinds = list(itertools.product(MOMENTS, ("file", "pipe"), FORMATS))
     chosen = [(*kinds[at % len(kinds)], dice.uniform(*MOMENTS[kinds[at % len(kinds)][0]])) for at in range(runs)]
-    with concurrent.futures.ThreadPoolExecutor(os.cpu_count()) as pool:
-        for run, fault in zip(chosen, pool.map(lambda run: fault_of(*run), chosen)):
+    has_boards = {kind: False for kind in MOMENTS}
+    with concurrent.futures.ThreadPoolExecutor(len(os.sched_getaffinity(0))) as pool:
+        for run, (fault, boards) in zip(chosen, pool.map(lambda run: fault_of(*run), chosen)):
+            has_boards[run[0]] |= boards > 0
             yield f"stopped, {run[0]} into a {run[1]}, {run[2]}, after {run[3]:.3f} s", fault
+    for kind, has_some in has_boards.items():
+        yield f"stopped, {kind}: some run has a board", None if has_some else "none has"

@@ -122,6 +122,8 @@ LINE = re.compile(
     rb"\d+%  \d{1,3}(,\d{3})* of 1,000,000,000 candidates  (1 board|[\d,]+ boards)  (\d+ /s|\d+\.\d [kM]/s)  "
     rb"(\d+ d \d+ h|\d+ h \d+ min|\d+ min \d+ s|\d+ s) left"
 )
+# The same of a `count` of fewer deals.
+COUNT_LINE = re.compile(LINE.pattern.replace(b"1,000,000,000", b"30,000,000"))
 # The counts as a terminal's line, which is drawn anew.
 REDRAWN = re.compile(rb"\r\x1b\[\?7l(.*?)\x1b\[K\x1b\[\?7h")
 # How much output is gathered at most, before it is passed on.
@@ -313,8 +315,9 @@ def check_terminal():
         return began and run.seconds() > began[0] + 1.5
     status, drawn, _ = on_a_terminal([*RARE, "--progress", "never"], is_past)
     yield "a terminal, never", drawn == [] and bool(began)
-    status, drawn, _ = on_a_terminal(["make", "--seed", "1", "--candidates", "36"], never_enough)
-    yield "a terminal, a short run", status == 0 and drawn == []
+    short = ["make", "--seed", "1", "--candidates", "36"]
+    status, drawn, out = on_a_terminal(short, never_enough)
+    yield "a terminal, a short run", status == 0 and drawn == [] and out.count(b"[Deal ") == 36
 
 
 def drawn_text(words):
@@ -337,7 +340,8 @@ def check_never():
     report = b"0 boards from 9 candidates, numbers 0 to 8, of seed 7\r\nnext: --first 9\r\n"
     yield "never met, before the report", drawn_text([*words, "--report"]) == (0, NOTE + report)
     yield "never met, no long search", drawn_text([*RARE[:-1], NEVER[0]]) == (0, NOTE)
-    yield "never met, a refused plan", NOTE not in drawn_text([*words, "--workers", "17"])[1]
+    refused = b"plan refused: workers\r\n  --workers 17: 1 to 16 workers, or auto\r\n"
+    yield "never met, a refused plan", drawn_text([*words, "--workers", "17"]) == (2, refused)
     with harness.scratch() as folder:
         yield from check_never_without_memory([harness.PROGRAM, *words], harness.compile_shim(folder))
 
@@ -364,9 +368,28 @@ def check_rare():
     yield "hardly ever met, after a second", text.count(b"note: ") == 1 and RARELY in text and drawn[0][0] > 1 - CLOCKS
     for words in [[*HARDLY, "--hints", "never"], [*HARDLY[:-1], "hcp(north)>=36"], [*HARDLY[:-1], f"({HARDLY[-1]}) or 0==1"]]:
         _, drawn, _ = on_a_terminal(words, lambda run: len(REDRAWN.findall(run.text())) > 4)
-        yield f"hardly ever met, nothing of {words[5:]}", b"note: " not in b"".join(piece for _, piece in drawn)
+        text = b"".join(piece for _, piece in drawn)
+        yield f"hardly ever met, nothing of {words[5:]}", len(REDRAWN.findall(text)) > 4 and b"note: " not in text
     words = [*HARDLY[:4], "30000000", *HARDLY[5:]]
     yield "hardly ever met, into a file", told(words) == (0, b"", b"")
+
+
+def check_counted():
+    """The line of counts of a `count`: on a terminal, where it is wiped, and into a pipe. The table is the same."""
+    words = ["count", *RARE[1:4], "30000000", *RARE[5:], "--of", "hcp(north)"]
+    table = told(words)
+    yield "a count, into a pipe", (table[0], table[2]) == (0, b"") and b" of 30,000,000 deals: " in table[1]
+    status, drawn, out = on_a_terminal(words, never_enough)
+    text = b"".join(piece for _, piece in drawn)
+    lines = REDRAWN.findall(text)
+    yield "a count, the line", bool(lines) and all(COUNT_LINE.fullmatch(line) for line in lines)
+    yield "a count, wiped", text.endswith(b"\r\x1b[K") and harness.without_counts(text) == b""
+    yield "a count, the table", (status, out) == (0, table[1])
+    yield "a count, never", drawn_text([*words, "--progress", "never"]) == (0, b"")
+    status, out, err = told([*words, "--progress", "always"])
+    is_whole = err.endswith(b"\n") and all(COUNT_LINE.fullmatch(line) for line in err.splitlines())
+    yield "a count, always", is_whole
+    yield "a count, always, the table", (status, out) == (0, table[1])
 
 
 def check_shared():
@@ -385,7 +408,7 @@ def check_whole():
 
 
 CHECKS = [check_found, check_refused, check_advised, check_page, check_stopped, check_terminal, check_never]
-CHECKS += [check_rare, check_shared, check_whole]
+CHECKS += [check_rare, check_counted, check_shared, check_whole]
 
 
 def watched():
