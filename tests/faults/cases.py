@@ -289,11 +289,8 @@ QUESTIONS = {"hcp(south)": lambda d: model.points(d[SOUTH]), "longest(north)": l
 def counted(style, candidates, texts):
     """What `count` writes of the simple condition's deals among the first of seed 7."""
     _, accepts = CONDITIONS["simple"]
-    state, answers = model.start(7), []
-    for _ in range(candidates):
-        hands, state = model.hands(state)
-        if accepts(hands):
-            answers.append(tuple(QUESTIONS[text](hands) for text in texts))
+    accepted = filter(accepts, model.dealt(7, candidates))
+    answers = [tuple(QUESTIONS[text](hands) for text in texts) for hands in accepted]
     answers = [answer[0] if len(answer) == 1 else answer for answer in answers]
     return counts.written(style, texts, ["value"] * len(texts), answers, candidates)
 

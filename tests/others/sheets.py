@@ -115,6 +115,8 @@ def crowded(make, folder):
             file.write_bytes(shown_text)
             found = pages.measured(folder, file, width)
             faults = [fault for fault in ("cut", "overflows", "crowded", "broken") if found[fault]]
+            if found["boards"] != MANY:
+                faults.append(f"{found['boards']} boards")
             if screen == "paper" and found["tallest"] > height:
                 faults.append(f"a board of {found['tallest']} pixels")
             yield f"many boards, {name}, {screen}", "; ".join(f"{fault}: {found.get(fault)}" for fault in faults) or None

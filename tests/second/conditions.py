@@ -64,14 +64,6 @@ def examples():
         yield f"examples/{file.name}", file.read_text()
 
 
-def dealt():
-    """The four hands of each candidate."""
-    state = model.start(SEED)
-    for _ in range(CANDIDATES):
-        hands, state = model.hands(state)
-        yield hands
-
-
 def expected(condition, deals):
     """The deals of the boards that are to be written, as the program writes them."""
     is_true = language.condition(condition)
@@ -131,7 +123,7 @@ def random_complaint(condition, deals, asked=ASKED):
 @functools.cache
 def deals():
     """The candidates of each worked condition."""
-    return list(dealt())
+    return list(model.dealt(SEED, CANDIDATES))
 
 
 def worked_conditions():

@@ -34,6 +34,14 @@ def hands(state):
     return [sorted(cards[13 * q:13 * q + 13]) for q in range(4)], state
 
 
+def dealt(seed, count):
+    """The four hands of each of the first candidates of a seed."""
+    state = start(seed)
+    for _ in range(count):
+        each, state = hands(state)
+        yield each
+
+
 def suit(hand, number):
     return [card % 13 for card in hand if card // 13 == number]
 
@@ -66,22 +74,16 @@ def game(board, labels, dealt):
 
 def numbers(seed, count, accepts):
     """The text of `find`."""
-    state, found = start(seed), []
-    for number in range(count):
-        dealt, state = hands(state)
-        if accepts(dealt):
-            found.append(f"{number}\n")
-    return "".join(found).encode()
+    return "".join(f"{number}\n" for number, each in enumerate(dealt(seed, count)) if accepts(each)).encode()
 
 
 def games(seed, count, accepts=lambda dealt: True, first=0, boards=None, first_board=1, labels=()):
     """The text of `make`."""
-    state, text, written = start(seed), ["% PBN 2.1\n"], 0
-    for number in range(first + count):
+    text, written = ["% PBN 2.1\n"], 0
+    for number, each in enumerate(dealt(seed, first + count)):
         if written == boards:
             break
-        dealt, state = hands(state)
-        if number >= first and accepts(dealt):
-            text.append(game(first_board + written, labels, dealt))
+        if number >= first and accepts(each):
+            text.append(game(first_board + written, labels, each))
             written += 1
     return "".join(text).encode()

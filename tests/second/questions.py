@@ -26,14 +26,6 @@ CANDIDATES = 240
 ASKED = 20_000 if report.has("many") else 2_000
 
 
-def dealt():
-    """The four hands of each candidate."""
-    state = model.start(SEED)
-    for _ in range(CANDIDATES):
-        hands, state = model.hands(state)
-        yield hands
-
-
 def question(text):
     """Whether the text is a condition or a value, and its answer as a function of four hands."""
     try:
@@ -178,6 +170,6 @@ def output(commands):
 
 def random_ones():
     """Random questions."""
-    deals = list(dealt())
+    deals = list(model.dealt(SEED, CANDIDATES))
     yield from report.asked(lambda row: complaint(deals, *row), asked())
     yield from report.asked(lambda row: complaint_of_each(deals, *row), asked_of_each())

@@ -109,11 +109,7 @@ def is_called_impossible(condition, words=()):
 @functools.cache
 def deals():
     """The deals that the second reader is asked of."""
-    state, dealt = model.start(SEED), []
-    for _ in range(DEALS):
-        hands, state = model.hands(state)
-        dealt.append(hands)
-    return dealt
+    return list(model.dealt(SEED, DEALS))
 
 
 def met(condition):
