@@ -5,6 +5,7 @@ import os
 import pathlib
 import pty
 import re
+import secrets
 import select
 import shutil
 import subprocess
@@ -13,8 +14,8 @@ import time
 
 import harness
 
-# Where the man page and the completions are, which package/pages makes.
-PAGES = pathlib.Path(tempfile.gettempdir()) / f"deals-pages-{os.getpid()}"
+# Where the man page and the completions are, which package/pages makes. Nobody can know the name before.
+PAGES = pathlib.Path(tempfile.gettempdir()) / f"deals-pages-{secrets.token_hex(8)}"
 MAN = PAGES / "deals.1"
 # The seconds that a shell has for an answer.
 PATIENCE = 60

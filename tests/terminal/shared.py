@@ -39,12 +39,22 @@ def pieces_of(terminal):
 def look(words, text):
     """What is wrong with a row of the screen, or None, and whether a board was seen while counts were drawn. The run
     writes this text into a pipe."""
-    wanted = [line.rstrip(" ") for line in text.decode().split("\n")]
     ours, theirs = pty.openpty()
     process = subprocess.Popen([harness.PROGRAM, *words], stdin=subprocess.DEVNULL, stdout=theirs, stderr=theirs)
     os.close(theirs)
+    try:
+        return fault_of_rows(process, ours, text)
+    finally:
+        os.close(ours)
+        process.kill()
+        process.wait()
+
+
+def fault_of_rows(process, terminal, text):
+    """The same of a run that has begun on this terminal."""
+    wanted = [line.rstrip(" ") for line in text.decode().split("\n")]
     seen, is_behind_counts = screen.Screen(), False
-    for piece in pieces_of(ours):
+    for piece in pieces_of(terminal):
         seen.feed(piece)
         lines = seen.lines()
         if piece.endswith(DRAWN):
@@ -54,7 +64,6 @@ def look(words, text):
             lines.append("")
         if lines[:-1] != wanted[: len(lines) - 1] or lines[-1]:
             return f"the rows {lines[-6:]}", is_behind_counts
-    os.close(ours)
     is_right = process.wait() == 0 and lines == wanted
     return None if is_right else f"at the end the rows {lines[-6:]}", is_behind_counts
 
