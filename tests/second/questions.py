@@ -1,6 +1,6 @@
 """Asks the built program random questions with `count`, and a second program (counts.py over language.py and model.py)
-the same: tables and comma-separated values byte for byte, pages by their heading, lines, cells, bars and shades. Lines
-of several runs are added up, as the docs say, by awk and by GNU parallel.
+the same: tables and comma-separated values byte for byte, pages by their heading, lines, cells, bars and shades. Some
+use names that are defined beside them. Lines of several runs are added up, as the docs say, by awk and by GNU parallel.
 
 With `many` there are 20,000 random questions in place of 2,000.
 """
@@ -65,19 +65,41 @@ def asked():
             yield style, where, questions, first, min(count, CANDIDATES - first), boards
 
 
-def words_of(style, where, questions, first, count, boards):
+def named_question(dice, names):
+    """A question in which names are used: a value, where one of them is a value, or a test."""
+    values = [name for name in names if name[-1]]
+    if not values or dice.randrange(3) == 0:
+        return random_conditions.test(dice, [], 1, names)
+    use = random_conditions.called(dice, [], dice.choice(values))
+    return dice.choice([use, f"{use}+{random_conditions.count(dice, [])[0]}"])
+
+
+def asked_beside():
+    """The same of one or two questions, and of definitions beside them whose names they and the condition use."""
+    dice = random.Random(1913)
+    for _ in range(ASKED // 5):
+        definitions, names = random_conditions.definitions(dice)
+        where = random_conditions.test(dice, [], 1, names) if dice.randrange(3) else None
+        questions = [named_question(dice, names), random_conditions.test(dice, [], 1, names)][: dice.choice([1, 1, 2])]
+        if all(len(text.encode()) <= 1024 for text in [*questions, where or ""]):
+            style = dice.choice(["table", "csv", "html", "json"])
+            yield style, where, questions, 0, dice.choice([1, 20, CANDIDATES]), None, definitions
+
+
+def words_of(style, where, questions, first, count, boards, definitions=""):
     words = ["count", "--seed", str(SEED), "--first", str(first), "--candidates", str(count), "--format", style]
     words += ["--where", where] if where else []
     words += ["--boards", str(boards)] if boards else []
+    words += ["--let", definitions] if definitions else []
     for name, text in zip(["--of", "--by"], questions):
         words += [name, text]
     return words
 
 
-def expected(deals, where, questions, first, count, boards):
+def expected(deals, where, questions, first, count, boards, definitions=""):
     """The kinds of the questions, the answers of the accepted deals, and how many candidates were tried."""
-    kinds, askers = zip(*map(question, questions)) if questions else ((), ())
-    is_true = language.condition(where) if where else lambda hands: True
+    kinds, askers = zip(*(question(f"{definitions} {text}") for text in questions)) if questions else ((), ())
+    is_true = language.condition(f"{definitions} {where}") if where else lambda hands: True
     answers, tried = [], 0
     for hands in deals[first : first + count]:
         if boards is not None and len(answers) == boards:
@@ -110,13 +132,13 @@ def complaint_of_each(deals, style, where, questions, first, count, boards):
     return None if is_right else f"status {run.returncode}: {run.stdout.decode()!r} for {wanted!r}, {run.stderr!r}"
 
 
-def complaint(deals, style, where, questions, first, count, boards):
+def complaint(deals, style, where, questions, first, count, boards, definitions=""):
     """What is wrong with the program's answer, or None."""
-    words = words_of(style, where, questions, first, count, boards)
+    words = words_of(style, where, questions, first, count, boards, definitions)
     run = subprocess.run([harness.PROGRAM, *words], capture_output=True, check=False)
     if run.returncode != 0 or run.stderr:
         return f"status {run.returncode}: {run.stderr.decode()}"
-    kinds, answers, tried = expected(deals, where, questions, first, count, boards)
+    kinds, answers, tried = expected(deals, where, questions, first, count, boards, definitions)
     written = run.stdout.decode()
     if style == "csv":
         wanted = "\n".join(counts.csv(kinds, answers, tried)) + "\n"
@@ -173,3 +195,4 @@ def random_ones():
     deals = list(model.dealt(SEED, CANDIDATES))
     yield from report.asked(lambda row: complaint(deals, *row), asked())
     yield from report.asked(lambda row: complaint_of_each(deals, *row), asked_of_each())
+    yield from report.asked(lambda row: complaint(deals, *row), asked_beside())

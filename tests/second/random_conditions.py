@@ -26,8 +26,8 @@ DEEPEST = 4
 PARAMETERS = [[], ["seat"], ["suit"], ["seat", "suit"]]
 
 
-def named(dice):
-    """Definitions, and a test in which names are used."""
+def definitions(dice):
+    """Definitions, and the names that they give: of each its letters, what its brackets have, and whether it is a value."""
     names, given = [], []
     for letters in dice.sample(["strong", "weak", "fit", "side"], dice.randrange(1, 4)):
         parameters, is_value = dice.choice(PARAMETERS), dice.randrange(3) == 0
@@ -37,15 +37,26 @@ def named(dice):
         brackets = f"({','.join(parameters)})" if parameters else ""
         given.append(f"let {letters}{brackets} is ({body})")
         names = [*names, (letters, parameters, is_value)]
-    return " ".join([*given, test(dice, [], 1, names)])
+    return " ".join(given), names
+
+
+def named(dice):
+    """Definitions, and a test in which names are used."""
+    given, names = definitions(dice)
+    return f"{given} {test(dice, [], 1, names)}"
+
+
+def called(dice, around, name):
+    """A name with what its brackets are given."""
+    letters, parameters, _ = name
+    members = [hand(dice, around) if parameter == "seat" else suit(dice, around) for parameter in parameters]
+    return f"{letters}({','.join(members)})" if members else letters
 
 
 def used(dice, around, name):
     """A use of a name: a test."""
-    letters, parameters, is_value = name
-    members = [hand(dice, around) if parameter == "seat" else suit(dice, around) for parameter in parameters]
-    use = f"{letters}({','.join(members)})" if members else letters
-    if not is_value:
+    use = called(dice, around, name)
+    if not name[-1]:
         return use
     value, about = of_hand(dice, around)
     return dice.choice([f"{use}{dice.choice(RELATIONS)}{value}", f"{use}>={dice.randrange(12)}", f"{value}+{use}<{about + 5}"])
