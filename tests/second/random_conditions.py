@@ -27,7 +27,7 @@ PARAMETERS = [[], ["seat"], ["suit"], ["seat", "suit"]]
 
 
 def definitions(dice):
-    """Definitions, and the names that they give: of each its letters, what its brackets have, and whether it is a value."""
+    """Definitions, and their names: of each its letters, what its brackets have, and whether it is a value."""
     names, given = [], []
     for letters in dice.sample(["strong", "weak", "fit", "side"], dice.randrange(1, 4)):
         parameters, is_value = dice.choice(PARAMETERS), dice.randrange(3) == 0

@@ -5,7 +5,6 @@ from __future__ import annotations
 
 import random
 import re
-import subprocess
 from collections.abc import Iterator
 
 import board_formats
@@ -17,6 +16,8 @@ import report
 
 # How many games the texts have in the gate, and with `many`.
 GAMES, MANY = 3_000, 20_000
+# Whose hands are written, beside those of all.
+WHO = ["dealer", "north", "east", "south", "west", "ns", "ew"]
 PLAYERS = ("West", "North", "East", "South", "Scoring", "Declarer", "Contract", "Result", "Auction", "_x1")
 IN_UTF_8 = ("Z\xfcrich", "\u738b" * 100, "\u738b" * 101, "\U0001f0a1" * 100, "to\u202eend", "a\u2028b", "a\x85b")
 COMMENTS = ("; a remark", "{one line}", "{over\n[Board \"9\"]\n\nlines}", "% an escape [Deal]", "{a {b} c", "}", ";{")
@@ -100,13 +101,15 @@ def random_text(rng: random.Random, games: int) -> bytes:
     return text.encode("latin1")
 
 
-def written(form: str, boards: list[records.Board], whole: bool) -> bytes:
-    """The boards in a format with their tricks, under the labels of the first, whose tricks decide on a page's style."""
+def written(form: str, boards: list[records.Board], whole: bool, who: str, has_points: bool) -> bytes:
+    """These hands of the boards in a format, with tricks where all are written, under the labels of the first, whose
+    tricks decide on a page's style."""
     labels = boards[0].labels if boards else []
     parts = [notation.header(form, labels, bool(boards and boards[0].tricks[0]))]
     for board in boards:
-        dealer, tricks = model.SEATS.index(board.dealer), board.tricks
+        dealer, tricks = model.SEATS.index(board.dealer), board.tricks if who == "all" else ("", "", "")
         hands = [[13 * suit + model.RANKS.index(r) for suit in range(4) for r in hand[suit]] for hand in board.hands]
+        hands = notation.shown(hands, dealer, who)
         if form == "pbn":
             ascii_only = [(name, value) for name, value in labels if re.fullmatch(r"[ !#-\[\]-~]*", value)]
             parts.append(notation.game(board.number, dealer, board.vulnerable, hands, tricks, ascii_only))
@@ -114,8 +117,8 @@ def written(form: str, boards: list[records.Board], whole: bool) -> bytes:
             line = notation.json_line(board.number, dealer, board.vulnerable, hands, tricks, 0)
             parts.append(line.replace(',"number":0', ""))
         else:
-            write = notation.WRITERS
-            parts.append(write[form](board.number, dealer, board.vulnerable, hands, tricks))
+            write = notation.WRITERS[form]
+            parts.append(write(board.number, dealer, board.vulnerable, hands, tricks, has_points))
     if whole and form in notation.PAGES:
         parts.append(notation.frame(1, ()))
     return "".join(parts).encode()
@@ -129,9 +132,11 @@ def of_texts() -> Iterator[tuple[str, str | None]]:
         left -= games
         text = random_text(rng, games)
         boards, refused = records.read(text)
-        command = [harness.PROGRAM, "show", "--format", form]
-        ended = subprocess.run(command, input=text, capture_output=True, check=False)
-        wanted = (7 if refused else 0, written(form, boards, refused is None), f"{refused}\n" if refused else "")
+        who, points = rng.choice(["all"] * 8 + WHO), rng.choice(["show", "show", "hide"])
+        words = ["show", "--format", form, "--show", who, "--points", points]
+        ended = harness.deals(*words, given=text)
+        out = written(form, boards, refused is None, who, points == "show")
+        wanted = (7 if refused else 0, out, f"{refused}\n" if refused else "")
         right = (ended.returncode, ended.stdout, ended.stderr.decode()) == wanted
-        name = f"show --format {form} < {text[:300]!r}"
+        name = f"{' '.join(words)} < {text[:300]!r}"
         yield name, None if right else f"not {len(boards)} boards, {refused}: {ended.returncode} {ended.stderr.decode()}"

@@ -161,7 +161,8 @@ def many_numbers():
     process.returncode = os.waitstatus_to_exitcode(status)
     a_second = MANY / (used.ru_utime + used.ru_stime)
     print(f"pick deals {a_second:,.0f} numbers a second of the processor, in {peak} KiB")
-    yield "speed", None if status == 0 and a_second * SLOWEST >= NUMBERS_A_SECOND else f"{a_second:,.0f} numbers a second"
+    is_fast = status == 0 and a_second * SLOWEST >= NUMBERS_A_SECOND
+    yield "speed", None if is_fast else f"status {status}, {a_second:,.0f} numbers a second"
     yield "memory", None if peak < MOST_MEMORY else f"{peak} KiB"
 
 
