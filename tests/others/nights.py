@@ -47,7 +47,7 @@ class Night:
         """The script's status, and what it said; `at` is the call that goes wrong, `more` is in its environment."""
         counts = self.folder / "counts"
         counts.unlink(missing_ok=True)
-        path = f"{self.programs}:/usr/bin:/bin"
+        path = f"{self.programs}:{self.machine_without(without) if without else '/usr/bin:/bin'}"
         settings = {"PATH": path, "COUNTS": str(counts), "AT": str(at), "HOW": how, **more}
         for name in without:
             (self.programs / name).rename(self.folder / name)
@@ -57,6 +57,15 @@ class Night:
             for name in without:
                 (self.folder / name).rename(self.programs / name)
         return ended.returncode, ended.stderr
+
+    def machine_without(self, names):
+        """A folder with the machine's programs but these, which may be installed."""
+        folder = self.folder / "machine"
+        folder.mkdir()
+        for program in {file.name: file for place in ("/bin", "/usr/bin") for file in pathlib.Path(place).iterdir()}.values():
+            if program.name not in names:
+                (folder / program.name).symlink_to(program)
+        return folder
 
     def files(self):
         there = self.folder / "night"

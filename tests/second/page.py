@@ -27,6 +27,11 @@ def is_condition(text):
     return subprocess.run(run, capture_output=True).returncode == 0
 
 
+def has(page, word):
+    """Whether the page has the word: of what has a number its line, of another the word alone."""
+    return f"  {word}(north" in page if word in VALUES else re.search(rf"\b{word}\b", page) is not None
+
+
 def complaint():
     """What is wrong with the page; None where nothing is."""
     ended = subprocess.run([harness.PROGRAM, "conditions"], capture_output=True, text=True)
@@ -38,5 +43,5 @@ def complaint():
     refused = [example for example in examples if not is_condition(example)]
     if wide or refused or len(examples) != EXAMPLES:
         return f"wide {wide}, refused {refused}, {len(examples)} examples"
-    missing = [word for word in words() if (f"  {word}(north" if word in VALUES else word) not in page]
+    missing = [word for word in words() if not has(page, word)]
     return f"without {missing} of {len(words())} words" if missing or len(words()) < 37 else None
