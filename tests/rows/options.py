@@ -57,7 +57,8 @@ def fault_of(call):
     if ended.returncode == 0 and call.endswith("''"):
         return None
     told = words.said_on_terminal(call, b"")
-    return None if ended.returncode in (2, 3) and HELP.search(told) else f"status {ended.returncode}, told {told!r}"
+    is_refused = ended.returncode in (2, 3) and not ended.stdout
+    return None if is_refused and HELP.search(told) else f"status {ended.returncode}, told {told!r}"
 
 
 def told_of(call):

@@ -151,8 +151,8 @@ def words():
 def fault_of_refused(words, lines):
     """Why a person isn't told these lines of words that are refused, or a program is told one, or None."""
     ended = run(words, b"")
-    if ended.returncode not in (2, 3):
-        return f"status {ended.returncode}"
+    if ended.returncode not in (2, 3) or ended.stdout:
+        return f"status {ended.returncode}, wrote {ended.stdout[:200]!r}"
     if b"\n  hint: " in ended.stderr:
         return f"said {ended.stderr!r} to a program"
     told = re.findall("^  (?:tip|hint): .*$", said_on_terminal(words, b""), flags=re.M)
