@@ -171,5 +171,4 @@ def packaged():
     """The packages, their pages and completions."""
     commands.make_pages()
     with tempfile.TemporaryDirectory(prefix="package-") as folder:
-        for test in QUICK + (installs.SLOW if report.has("all") else []):
-            yield from report.results(test.__name__, lambda: report.judged(test(pathlib.Path(folder))))
+        yield from report.each(QUICK + (installs.SLOW if report.has("all") else []), pathlib.Path(folder))

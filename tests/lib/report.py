@@ -53,8 +53,14 @@ def results(name, part):
         yield name, f"{type(error).__name__}: {error}"
 
 
+def in_turn(parts, *given):
+    """What each of these parts yields of what is given, by its own name."""
+    for part in parts:
+        yield from results(part.__name__, lambda part=part: part(*given))
+
+
 def each(parts, *given):
-    """What each of these parts yields of what is given, by its own name: whether each thing is right."""
+    """The same of parts that yield whether each thing is right."""
     for part in parts:
         yield from results(part.__name__, lambda part=part: judged(part(*given)))
 

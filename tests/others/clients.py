@@ -28,5 +28,4 @@ def make(*words, lines=b""):
 def programs():
     """Each program of others; with `slow` the browser and the viewer too."""
     with tempfile.TemporaryDirectory(prefix="clients-") as folder:
-        for test in QUICK + (SLOW if report.has("slow") else []):
-            yield from report.results(test.__name__, lambda: test(make, pathlib.Path(folder)))
+        yield from report.in_turn(QUICK + (SLOW if report.has("slow") else []), make, pathlib.Path(folder))

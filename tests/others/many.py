@@ -6,18 +6,12 @@ import report
 import shards
 
 
-def each(tests):
-    """What each test yields, or why it can't be run."""
-    for test in tests:
-        yield from report.results(test.__name__, lambda: test(harness.deals))
-
-
 def joined():
     """Shards one after another, in an array of jobs, and by GNU parallel; searches that are stopped, and resumed."""
-    yield from each([shards.joined, shards.array, shards.parallel, shards.stopped, shards.resumed, shards.begun,
-                     shards.known, shards.refused, shards.usage])
+    tests = [shards.joined, shards.array, shards.parallel, shards.stopped, shards.resumed, shards.begun]
+    yield from report.in_turn([*tests, shards.known, shards.refused, shards.usage], harness.deals)
 
 
 def clusters():
     """A search over ssh, and by a Slurm."""
-    yield from each([machines.over_ssh, machines.slurm])
+    yield from report.in_turn([machines.over_ssh, machines.slurm], harness.deals)

@@ -1,6 +1,7 @@
 """The script of a club's night: killed at every step and run again, run twice, with words of another night, and where a
-program fails. There is never a sheet of other boards."""
+program fails. There is never a sheet of other boards, and nobody else can read them."""
 
+import fcntl
 import os
 import pathlib
 import signal
@@ -198,6 +199,47 @@ def elsewhere():
         yield "a hyphen in front", status == 0 and (night.folder / "-n" / "night.pbn").exists()
 
 
+def unnamed():
+    """A folder that isn't named has the name of its day."""
+    with harness.scratch() as folder:
+        night = Night(folder)
+        before = time.strftime("%Y-%m-%d")
+        status, _ = night.run(*WORDS[:2])
+        (there,) = night.folder.glob("night-*")
+        yield "the folder's name", status == 0 and there.name in (f"night-{before}", f"night-{time.strftime('%Y-%m-%d')}")
+        yield "its files", {file.name for file in there.iterdir()} >= {"seed", "night.pbn", "slips.html", "night.html"}
+        there.rename(night.folder / "night")
+        yield "its boards", night.is_right()
+        status, said = night.run(*WORDS[:2], "")
+        yield "an empty name", (status, said) == (2, "night: the folder's name is empty\n")
+
+
+def private():
+    """Nobody else can read the folder or a file of it."""
+    with harness.scratch() as folder:
+        night = Night(folder)
+        status, _ = night.run(*WORDS)
+        there = night.folder / "night"
+        yield "the folder's rights", status == 0 and there.stat().st_mode & 0o777 == 0o700
+        yield "the files' rights", {file.stat().st_mode & 0o777 for file in there.iterdir()} == {0o600}
+
+
+def locked():
+    """While one works in a folder, another stops and changes nothing there."""
+    with harness.scratch() as folder:
+        night = Night(folder)
+        there = night.folder / "night"
+        there.mkdir()
+        with (there / "lock").open("wb") as lock:
+            fcntl.flock(lock, fcntl.LOCK_EX)
+            status, said = night.run(*WORDS)
+            is_told = said == "night: another one works in night\n"
+            yield "another one works there", status == 2 and is_told and set(night.files()) == {"lock"}
+        status, _ = night.run(*WORDS)
+        yield "after it has ended", status == 0 and night.is_right()
+
+
 def nights():
+    # Files that are made as usual can be read by others.
     os.umask(0o022)
-    yield from report.each([made, days, letters, stopped, without, elsewhere])
+    yield from report.each([made, days, letters, stopped, without, elsewhere, unnamed, private, locked])

@@ -336,5 +336,4 @@ def runs():
 def scripts():
     packages.need("dealer", DEALER)
     packages.need("python3-lark", "/usr/lib/python3/dist-packages/lark/__init__.py")
-    for part in (words, table, examples, random_scripts, spoiled, shares, values, package, runs):
-        yield from part()
+    yield from report.in_turn([words, table, examples, random_scripts, spoiled, shares, values, package, runs])

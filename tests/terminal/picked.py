@@ -10,6 +10,7 @@ import re
 import subprocess
 
 import harness
+import report
 from board_formats import FORMATS
 
 # The words, the input, the status, and the length and the sha256 of what is written. What is said is the last.
@@ -177,5 +178,5 @@ def drawn():
 
 def picked():
     """What is found and picked."""
-    for test in [elsewhere, found_and_picked, drawn, other_inputs, line_by_line, closed_output, many_numbers]:
-        yield from test()
+    tests = [elsewhere, found_and_picked, drawn, other_inputs, line_by_line, closed_output, many_numbers]
+    yield from report.in_turn(tests)

@@ -9,6 +9,7 @@ import re
 import subprocess
 
 import harness
+import report
 from board_formats import FORMATS
 
 # Options of `make`, and those that both commands take.
@@ -150,5 +151,4 @@ def many_games():
 
 def shown():
     """Whether `show` writes the boards of its input."""
-    for part in (inputs, made_and_shown, made_with_tricks, other_inputs, game_by_game, many_games):
-        yield from part()
+    yield from report.in_turn([inputs, made_and_shown, made_with_tricks, other_inputs, game_by_game, many_games])

@@ -415,5 +415,4 @@ def watched():
     """Runs that are watched."""
     # A job in the background is started with this signal ignored, and so would be what it starts.
     signal.signal(signal.SIGINT, signal.default_int_handler)
-    for checks in CHECKS:
-        yield from report.judged(checks())
+    yield from report.each(CHECKS)
